@@ -1,0 +1,12 @@
+pub mod Limits
+pub mod Bit
+pub mod Plain
+pub mod Key
+pub mod Walk
+pub mod Codes
+pub mod Saved
+pub mod Refused
+pub mod Accepted
+pub mod Items
+pub mod Marked
+pub mod Checks

@@ -1,0 +1,9 @@
+use borrow.Author.Needs.{needs}
+use mathlib.Core.Logic.{inl}
+use Rattle.record_sink.proofs.methods.RecordSinkSink.put_inst.Needs as need
+
+-- no word reads as what was refused
+pub returns-in-Err : need.returns-in-Err
+returns-in-Err c =
+    let o = c .in-Err .ensures tt .only in
+    (search needs, inl ((λ p. o .1 (p .0) (p .1)), o .0))

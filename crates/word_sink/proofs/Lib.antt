@@ -1,0 +1,2 @@
+mod Refused
+pub mod Slots

@@ -1,0 +1,9 @@
+pub mod Examples
+pub mod Joins
+pub mod Constants
+pub mod Adjusts
+pub mod Probing
+pub mod SlotLaws
+pub mod Sizes
+pub mod Seals
+pub mod Grows

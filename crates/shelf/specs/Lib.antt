@@ -1,0 +1,4 @@
+pub mod Limits
+pub mod Slots
+pub mod Index
+pub mod Listed

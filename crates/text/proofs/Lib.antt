@@ -1,0 +1,4 @@
+pub mod Cutting
+pub mod Finding
+pub mod Growth
+pub mod Written

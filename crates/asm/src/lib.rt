@@ -1,4 +1,6 @@
 // Instructions as an assembler takes them. `llvm-mc` gives back the same word.
+#![tactic(auto)]
+
 use a64::imm::{Imm12, MoveWideConst};
 use a64::inst::{
     AddSub, Class, Dir, Inst, Key, Mode, Modifier, MoveWideOp, PairClass, PairMode, Reg,

@@ -1,4 +1,6 @@
 // How fast frames are made, and how fast words are read and written.
+#![tactic(auto)]
+
 mod held;
 mod rows;
 

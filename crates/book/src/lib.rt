@@ -1,4 +1,6 @@
 // Books of compiled functions, on any sink.
+#![tactic(auto)]
+
 pub mod book;
 mod items;
 mod limits;

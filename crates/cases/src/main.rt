@@ -1,4 +1,6 @@
 // Runs a table of cases from standard input, a case to a line, and prints the number of each and whether it holds.
+#![tactic(auto)]
+
 mod books;
 mod pieces;
 mod sheets;

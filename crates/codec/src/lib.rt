@@ -1,4 +1,6 @@
 // Words of AArch64 and the instructions that they read as.
+#![tactic(auto)]
+
 ghost use Rattle.std.specs.Prelude.{◌≡◌, ℕ, Ok, MatchOption, MatchResult};
 ghost use Rattle.a64.specs.Words.{Reads};
 ghost use Rattle.codec.specs.Unread.{unread};

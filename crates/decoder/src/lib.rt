@@ -1,4 +1,6 @@
 // Words of AArch64 read as instructions.
+#![tactic(auto)]
+
 ghost use Rattle.a64.specs.Words.{Reads};
 ghost use Rattle.a64.specs.declared.inst.Inst.{Inst as Instruction};
 ghost use Rattle.decoder.specs.Reading.{reading};

@@ -1,4 +1,6 @@
 // Prologues and epilogues, piece by piece or whole, on any sink.
+#![tactic(auto)]
+
 ghost use Rattle.item_list.specs.Lists.{listed};
 ghost use Rattle.std.specs.Prelude.{[], ◌≡◌};
 

@@ -1,4 +1,6 @@
 // The pieces that open and close a function, as lists of items.
+#![tactic(auto)]
+
 pub mod closing;
 mod forms;
 pub mod opening;

@@ -1,4 +1,6 @@
 // Does a job from standard input, a command to a line, and prints what each did.
+#![tactic(auto)]
+
 mod assembler;
 mod books;
 mod code;

@@ -1,4 +1,6 @@
 // A list of items that owns its cells.
+#![tactic(auto)]
+
 ghost use Rattle.std.specs.Prelude.{◌≡◌, ◌≤◌, length};
 ghost use Rattle.item_list.specs.Limits.{cell_count};
 

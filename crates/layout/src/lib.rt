@@ -1,4 +1,6 @@
 // The layout of a checked sheet's frame.
+#![tactic(auto)]
+
 mod compact;
 pub mod compute;
 pub mod frame_layout;

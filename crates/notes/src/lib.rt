@@ -1,4 +1,6 @@
 // Unwind notes, and the three words that stand for one.
+#![tactic(auto)]
+
 ghost use Rattle.std.specs.Prelude.{◌≡◌, ℕ, ◌%◌, ◌^◌, ◌<◌, ◌≤◌, [], ◌∷◌, MatchOption};
 ghost use Rattle.notes.specs.Notes.{NoteOf, inst_from_of, note_from_of, parts_of, words_of};
 

@@ -1,4 +1,6 @@
 // The record sink: it keeps its items as they are, in memory that was taken when it was made.
+#![tactic(auto)]
+
 ghost use Rattle.std.specs.Prelude.{◌+◌, ◌≤◌, vec_len, vec_capacity};
 ghost use Rattle.sink.specs.Held.{most};
 

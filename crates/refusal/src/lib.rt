@@ -1,4 +1,6 @@
 // Why a call was refused: the cause, the layer that found it, and the place.
+#![tactic(auto)]
+
 ghost use Rattle.refusal.specs.Told.{layer_number, number as number_of};
 ghost use Rattle.refusal.specs.Words.{words_of};
 ghost use Rattle.std.specs.Prelude.{◌≡◌, Some};

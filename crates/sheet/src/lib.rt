@@ -1,4 +1,6 @@
 // From a sheet as it arrives to one to which no refusal applies.
+#![tactic(auto)]
+
 pub mod check;
 pub mod checked;
 mod codes;

@@ -1,4 +1,6 @@
 // Plays scripts on sinks: for each script its number, a space, and 1 if every answer is the expected one, else 0.
+#![tactic(auto)]
+
 mod dear;
 mod form;
 mod play;

@@ -1,4 +1,6 @@
 // What frames owe their callers: theorems, each on the contract of a function.
+#![tactic(auto)]
+
 ghost use Rattle.returns.specs.Example.{RulesKept, ThreeDeep};
 ghost use Rattle.returns.specs.Notes.{FrameNoted, NotesHold, OneNoteEach};
 ghost use Rattle.returns.specs.Returns.{Lands, Returns, SavedKept};

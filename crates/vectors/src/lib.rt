@@ -1,4 +1,6 @@
 // Words that two assemblers wrote, held against the definition of words: it and the codec cannot err alike.
+#![tactic(auto)]
+
 ghost use Rattle.std.specs.Prelude.{◌≡◌, ◌+◌, length};
 ghost use Rattle.vectors.specs.Known.{Known-words, named, others};
 

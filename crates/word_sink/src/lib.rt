@@ -1,4 +1,6 @@
 // The word sink: cells of its own, code words from the front and notes of three words from the back.
+#![tactic(auto)]
+
 ghost use Rattle.std.specs.Prelude.{◌+◌, ◌*◌, ◌≤◌, vec_len};
 ghost use Rattle.sink.specs.Held.{most};
 

@@ -1,4 +1,6 @@
 // Frames worked out by hand: their words are those of the definitions.
+#![tactic(auto)]
+
 ghost use Rattle.worked.specs.Frames.{WorkedFrames};
 ghost use Rattle.std.specs.Prelude.{◌≡◌};
 

@@ -16,4 +16,4 @@ returns-in-None c =
 
 pub returns : goal.returns
 returns c =
-    all_read c.args.base c.loop-b.n c.loop-b.b-index c.args.s.now c.loop-b.invariant (omega (arith, eqb-false _ 0 (sym c.if-is-empty.ensures))) (omega arith)
+    all_read c.args.base c.loop-b.n c.loop-b.b-index c.args.s.now c.loop-b.invariant (omega (arith, eqb-false _ 0 (sym c.if-is_empty.ensures))) (omega arith)

@@ -5,7 +5,7 @@ use Rattle.std.proofs.Common.{sym, rules}
 
 pub loop-i-preserved : goal.loop-i-preserved
 loop-i-preserved c =
-    goes_on blank c.args.s.now c.loop-i.i c.loop-i.invariant c.loop-i-test.true (sym c.if-not-is-blank.ensures)
+    goes_on blank c.args.s.now c.loop-i.i c.loop-i.invariant c.loop-i-test.true (sym c.if-not-is_blank.ensures)
 
 pub returns-then-not-is-blank : goal.returns-then-not-is-blank
 returns-then-not-is-blank c =

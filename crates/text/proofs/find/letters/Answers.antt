@@ -6,7 +6,7 @@ use Rattle.std.proofs.Common.{not, sym, rules}
 
 pub loop-i-preserved : goal.loop-i-preserved
 loop-i-preserved c =
-    goes_on (λ x. not (blank x)) c.args.s.now c.loop-i.i c.loop-i.invariant c.loop-i-test.true (not_from_false _ (sym c.if-is-blank.ensures))
+    goes_on (λ x. not (blank x)) c.args.s.now c.loop-i.i c.loop-i.invariant c.loop-i-test.true (not_from_false _ (sym c.if-is_blank.ensures))
 
 pub returns-then-is-blank : goal.returns-then-is-blank
 returns-then-is-blank c =

@@ -14,6 +14,6 @@ returns c =
     let s = c.args.self.now.rest.now in
     let place = c.byte-end.ensures.place in
     record {
-      line = kept s _ (take (up_to 10 s) s) c.if-is-empty.ensures (front s c.byte-end.result (up_to 10 s) place);
+      line = kept s _ (take (up_to 10 s) s) c.if-is_empty.ensures (front s c.byte-end.result (up_to 10 s) place);
       rest = c.past-self.ensures ∙ ap (λ n. drop (n + 1) s) place;
     }

@@ -7,8 +7,8 @@ returns c =
     let b = c.args.self.now.separator in
     let n = c.byte-end.result in
     let o = c.args.self.now.rest in
-    let x = c.in-ok-s.s in
-    let was = c.in-ok-s.was in
+    let x = c.in_ok-s.s in
+    let was = c.in_ok-s.was in
     let place = c.byte-end.ensures.place in
     record {
       part = one_part b n o x was place;

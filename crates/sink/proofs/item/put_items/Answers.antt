@@ -1,4 +1,4 @@
 use Rattle.sink.proofs.item.put_items.Goals as goal
 
-pub invariant-of-put-readable : goal.invariant-of-put-readable
-invariant-of-put-readable g c = (∣ c.in-Ok.ensures ∣₁, tt)
+pub invariant-of-put_readable : goal.invariant-of-put_readable
+invariant-of-put_readable g c = (∣ c.in-Ok.ensures ∣₁, tt)

@@ -40,33 +40,33 @@ pub struct Book<S: Sink> {
 impl<S: Sink> Book<S> {
     // The slot of a function number.
     pub fn look_up(&self, number: u32) -> Option<usize>
-        ensures { (k : ℕ) (fs : _) → Stands (priced S.InstPrice.Price.units S.NotePrice.Price.units) k (held self.now.sink) (listed self.now.shelf) fs → result ≡ plain_look_up fs number }
+        ensures { (k : ℕ) (fs : _) → Stands (priced S.InstPrice.Price.units S.NotePrice.Price.units) k (S.held self.now.sink) (listed self.now.shelf) fs → result ≡ plain_look_up fs number }
     {
         self.shelf.slot_of(number)
     }
 
     pub fn inst_at(&self, i: usize) -> Result<Inst, Refusal>
-        ensures { (k : ℕ) (fs : _) → Stands (priced S.InstPrice.Price.units S.NotePrice.Price.units) k (held self.now.sink) (listed self.now.shelf) fs → said result ≡ read_at (meant (priced S.InstPrice.Price.units S.NotePrice.Price.units) k fs).insts i }
+        ensures { (k : ℕ) (fs : _) → Stands (priced S.InstPrice.Price.units S.NotePrice.Price.units) k (S.held self.now.sink) (listed self.now.shelf) fs → said result ≡ read_at (meant (priced S.InstPrice.Price.units S.NotePrice.Price.units) k fs).insts i }
     {
         self.sink.inst_at(i)
     }
 
     pub fn note_at(&self, i: usize) -> Result<Note, Refusal>
-        ensures { (k : ℕ) (fs : _) → Stands (priced S.InstPrice.Price.units S.NotePrice.Price.units) k (held self.now.sink) (listed self.now.shelf) fs → said result ≡ read_at (meant (priced S.InstPrice.Price.units S.NotePrice.Price.units) k fs).notes i }
+        ensures { (k : ℕ) (fs : _) → Stands (priced S.InstPrice.Price.units S.NotePrice.Price.units) k (S.held self.now.sink) (listed self.now.shelf) fs → said result ≡ read_at (meant (priced S.InstPrice.Price.units S.NotePrice.Price.units) k fs).notes i }
     {
         self.sink.note_at(i)
     }
 
     // How many instructions and notes there are, and the room.
     pub fn counts(&self) -> Counts
-        ensures { (k : ℕ) (fs : _) → Stands (priced S.InstPrice.Price.units S.NotePrice.Price.units) k (held self.now.sink) (listed self.now.shelf) fs → result ≡ counts_of (meant (priced S.InstPrice.Price.units S.NotePrice.Price.units) k fs) }
+        ensures { (k : ℕ) (fs : _) → Stands (priced S.InstPrice.Price.units S.NotePrice.Price.units) k (S.held self.now.sink) (listed self.now.shelf) fs → result ≡ counts_of (meant (priced S.InstPrice.Price.units S.NotePrice.Price.units) k fs) }
     {
         self.sink.counts()
     }
 
     // What the function at a slot is listed as.
     pub fn entry_at(&self, slot: usize) -> Option<Entry>
-        ensures { (k : ℕ) (fs : _) → Stands (priced S.InstPrice.Price.units S.NotePrice.Price.units) k (held self.now.sink) (listed self.now.shelf) fs → Shown (held self.now.sink) (item_at fs slot) result }
+        ensures { (k : ℕ) (fs : _) → Stands (priced S.InstPrice.Price.units S.NotePrice.Price.units) k (S.held self.now.sink) (listed self.now.shelf) fs → Shown (S.held self.now.sink) (item_at fs slot) result }
     {
         self.shelf.entry_at(slot)
     }
@@ -80,9 +80,9 @@ impl<S: Sink> Book<S> {
 
     // Drops the last function, and answers its number.
     pub fn withdraw(&mut self) -> Result<u32, Refusal>
-        ensures moves { Moves (priced S.InstPrice.Price.units S.NotePrice.Price.units) (held self.old.sink) (listed self.old.shelf) (held self.new.sink) (listed self.new.shelf) (λ k fs. plain_withdraw fs) (λ k fs. withdrawn fs) (said result) }
-        ensures refused { OnErr result ((held self.new.sink ≡ held self.old.sink) × (listed self.new.shelf ≡ listed self.old.shelf)) }
-        ensures claims { (k : ℕ) (fs : _) → Stands (priced S.InstPrice.Price.units S.NotePrice.Price.units) k (held self.new.sink) (listed self.new.shelf) fs → AllClaimed (held self.new.sink) fs }
+        ensures moves { Moves (priced S.InstPrice.Price.units S.NotePrice.Price.units) (S.held self.old.sink) (listed self.old.shelf) (S.held self.new.sink) (listed self.new.shelf) (λ k fs. plain_withdraw fs) (λ k fs. withdrawn fs) (said result) }
+        ensures refused { OnErr result ((S.held self.new.sink ≡ S.held self.old.sink) × (listed self.new.shelf ≡ listed self.old.shelf)) }
+        ensures claims { (k : ℕ) (fs : _) → Stands (priced S.InstPrice.Price.units S.NotePrice.Price.units) k (S.held self.new.sink) (listed self.new.shelf) fs → AllClaimed (S.held self.new.sink) fs }
     {
         let Some(last) = self.shelf.last() else {
             return Err(empty_book());
@@ -102,7 +102,7 @@ impl<S: Sink> Book<S> {
     ) -> Result<Entry, Refusal>
         requires prologue_value { prologue.now ≡ prologueOf (plain sheet) }
         requires epilogue_value { epilogue.now ≡ epilogueOf (plain sheet) }
-        ensures { Answers (why_not (priced S.InstPrice.Price.units S.NotePrice.Price.units) (held self.now.sink) (numbers_of (listed self.now.shelf)) (fun (plain sheet) body.now)) (λ e. plain_entry e ≡ entry_of (length (held self.now.sink).insts) (length (held self.now.sink).notes) (fun (plain sheet) body.now)) (Unit {0}) result }
+        ensures { Answers (why_not (priced S.InstPrice.Price.units S.NotePrice.Price.units) (S.held self.now.sink) (numbers_of (listed self.now.shelf)) (fun (plain sheet) body.now)) (λ e. plain_entry e ≡ entry_of (length (S.held self.now.sink).insts) (length (S.held self.now.sink).notes) (fun (plain sheet) body.now)) (Unit {0}) result }
     {
         if let Some(slot) = self.shelf.slot_of(sheet.number) {
             return Err(number_held(slot));
@@ -139,9 +139,9 @@ impl<S: Sink> Book<S> {
 
     // Puts a function's prologue, body words and epilogue, lists it, and answers its slot.
     pub fn add(&mut self, sheet: Sheet<'_>, body: &[u32]) -> Result<usize, Refusal>
-        ensures moves { Moves (priced S.InstPrice.Price.units S.NotePrice.Price.units) (held self.old.sink) (listed self.old.shelf) (held self.new.sink) (listed self.new.shelf) (λ k fs. plain_add (priced S.InstPrice.Price.units S.NotePrice.Price.units) k fs (sheet_refusal sheet.entry) (fun (plain_of sheet.entry) body.now)) (λ k fs. grown fs (fun (plain_of sheet.entry) body.now) (plain_add (priced S.InstPrice.Price.units S.NotePrice.Price.units) k fs (sheet_refusal sheet.entry) (fun (plain_of sheet.entry) body.now))) (said result) }
-        ensures refused { OnErr result ((held self.new.sink ≡ held self.old.sink) × (listed self.new.shelf ≡ listed self.old.shelf)) }
-        ensures claims { (k : ℕ) (fs : _) → Stands (priced S.InstPrice.Price.units S.NotePrice.Price.units) k (held self.new.sink) (listed self.new.shelf) fs → AllClaimed (held self.new.sink) fs }
+        ensures moves { Moves (priced S.InstPrice.Price.units S.NotePrice.Price.units) (S.held self.old.sink) (listed self.old.shelf) (S.held self.new.sink) (listed self.new.shelf) (λ k fs. plain_add (priced S.InstPrice.Price.units S.NotePrice.Price.units) k fs (sheet_refusal sheet.entry) (fun (plain_of sheet.entry) body.now)) (λ k fs. grown fs (fun (plain_of sheet.entry) body.now) (plain_add (priced S.InstPrice.Price.units S.NotePrice.Price.units) k fs (sheet_refusal sheet.entry) (fun (plain_of sheet.entry) body.now))) (said result) }
+        ensures refused { OnErr result ((S.held self.new.sink ≡ S.held self.old.sink) × (listed self.new.shelf ≡ listed self.old.shelf)) }
+        ensures claims { (k : ℕ) (fs : _) → Stands (priced S.InstPrice.Price.units S.NotePrice.Price.units) k (S.held self.new.sink) (listed self.new.shelf) fs → AllClaimed (S.held self.new.sink) fs }
     {
         let checked = check(sheet)?;
         let layout = compute_frame_layout(checked);
@@ -164,7 +164,7 @@ impl<S: Sink> Book<S> {
 impl<S: Sink + Drop> Book<S> {
     // A book with nothing in it, over a sink that is rewound to nothing. Want of memory hands the sink back.
     pub fn new(heap: Global, sink: S) -> Result<Book<S>, AllocFailed<S>>
-        ensures { MatchResult result (λ b. Stands (priced S.InstPrice.Price.units S.NotePrice.Price.units) (fed (priced S.InstPrice.Price.units S.NotePrice.Price.units) (held sink)) (held b.sink) (listed b.shelf) []) (λ e. e.value ≡ sink) }
+        ensures { MatchResult result (λ b. Stands (priced S.InstPrice.Price.units S.NotePrice.Price.units) (fed (priced S.InstPrice.Price.units S.NotePrice.Price.units) (S.held sink)) (held b.sink) (listed b.shelf) []) (λ e. e.value ≡ sink) }
     {
         let shelf = match Shelf::new(heap) {
             Ok(s) => s,

@@ -13,7 +13,7 @@ use sink::sink::Sink;
 
 // The landing pad and the seal, then FP and LR.
 pub fn gen_prologue_frame_setup<S: Sink>(layout: &FrameLayout, sink: &mut S) -> Result<(), Refusal>
-    ensures { PutPiece (record { inst = S.InstPrice.Price.units; note = S.NotePrice.Price.units }) (held sink.old) (gen_prologue_frame_setup_of (plain layout.now.sheet)) (held sink.new) result }
+    ensures { PutPiece (record { inst = S.InstPrice.Price.units; note = S.NotePrice.Price.units }) (S.held sink.old) (gen_prologue_frame_setup_of (plain layout.now.sheet)) (S.held sink.new) result }
 {
     let mut list = ItemList::new();
     opening::prologue_frame_setup(layout, &mut list);
@@ -22,7 +22,7 @@ pub fn gen_prologue_frame_setup<S: Sink>(layout: &FrameLayout, sink: &mut S) -> 
 
 // Room for a tail call, the saved registers, the storage.
 pub fn gen_clobber_save<S: Sink>(layout: &FrameLayout, sink: &mut S) -> Result<(), Refusal>
-    ensures { PutPiece (record { inst = S.InstPrice.Price.units; note = S.NotePrice.Price.units }) (held sink.old) (gen_clobber_save_of (plain layout.now.sheet)) (held sink.new) result }
+    ensures { PutPiece (record { inst = S.InstPrice.Price.units; note = S.NotePrice.Price.units }) (S.held sink.old) (gen_clobber_save_of (plain layout.now.sheet)) (S.held sink.new) result }
 {
     let mut list = ItemList::new();
     opening::clobber_save(layout, &mut list);
@@ -31,7 +31,7 @@ pub fn gen_clobber_save<S: Sink>(layout: &FrameLayout, sink: &mut S) -> Result<(
 
 // The storage freed, and the registers back.
 pub fn gen_clobber_restore<S: Sink>(layout: &FrameLayout, sink: &mut S) -> Result<(), Refusal>
-    ensures { PutPiece (record { inst = S.InstPrice.Price.units; note = S.NotePrice.Price.units }) (held sink.old) (code (gen_clobber_restore_of (plain layout.now.sheet))) (held sink.new) result }
+    ensures { PutPiece (record { inst = S.InstPrice.Price.units; note = S.NotePrice.Price.units }) (S.held sink.old) (code (gen_clobber_restore_of (plain layout.now.sheet))) (S.held sink.new) result }
 {
     let mut list = ItemList::new();
     closing::clobber_restore(layout, &mut list);
@@ -43,7 +43,7 @@ pub fn gen_epilogue_frame_restore<S: Sink>(
     layout: &FrameLayout,
     sink: &mut S,
 ) -> Result<(), Refusal>
-    ensures { PutPiece (record { inst = S.InstPrice.Price.units; note = S.NotePrice.Price.units }) (held sink.old) (code (gen_epilogue_frame_restore_of (plain layout.now.sheet))) (held sink.new) result }
+    ensures { PutPiece (record { inst = S.InstPrice.Price.units; note = S.NotePrice.Price.units }) (S.held sink.old) (code (gen_epilogue_frame_restore_of (plain layout.now.sheet))) (S.held sink.new) result }
 {
     let mut list = ItemList::new();
     closing::epilogue_frame_restore(layout, &mut list);
@@ -52,7 +52,7 @@ pub fn gen_epilogue_frame_restore<S: Sink>(
 
 // The return, checked where the address is sealed.
 pub fn gen_return<S: Sink>(layout: &FrameLayout, sink: &mut S) -> Result<(), Refusal>
-    ensures { PutPiece (record { inst = S.InstPrice.Price.units; note = S.NotePrice.Price.units }) (held sink.old) (code (gen_return_of (plain layout.now.sheet))) (held sink.new) result }
+    ensures { PutPiece (record { inst = S.InstPrice.Price.units; note = S.NotePrice.Price.units }) (S.held sink.old) (code (gen_return_of (plain layout.now.sheet))) (S.held sink.new) result }
 {
     let mut list = ItemList::new();
     closing::list_return(layout, &mut list);
@@ -61,7 +61,7 @@ pub fn gen_return<S: Sink>(layout: &FrameLayout, sink: &mut S) -> Result<(), Ref
 
 // Setup, with probes on the probes, then clobber save.
 pub fn put_prologue<S: Sink>(layout: &FrameLayout, sink: &mut S) -> Result<(), Refusal>
-    ensures { PutPiece (record { inst = S.InstPrice.Price.units; note = S.NotePrice.Price.units }) (held sink.old) (prologue (plain layout.now.sheet)) (held sink.new) result }
+    ensures { PutPiece (record { inst = S.InstPrice.Price.units; note = S.NotePrice.Price.units }) (S.held sink.old) (prologue (plain layout.now.sheet)) (S.held sink.new) result }
 {
     let mut list = ItemList::new();
     opening::list_prologue(layout, &mut list);
@@ -70,7 +70,7 @@ pub fn put_prologue<S: Sink>(layout: &FrameLayout, sink: &mut S) -> Result<(), R
 
 // Restore, frame restore, return.
 pub fn put_epilogue<S: Sink>(layout: &FrameLayout, sink: &mut S) -> Result<(), Refusal>
-    ensures { PutPiece (record { inst = S.InstPrice.Price.units; note = S.NotePrice.Price.units }) (held sink.old) (epilogue (plain layout.now.sheet)) (held sink.new) result }
+    ensures { PutPiece (record { inst = S.InstPrice.Price.units; note = S.NotePrice.Price.units }) (S.held sink.old) (epilogue (plain layout.now.sheet)) (S.held sink.new) result }
 {
     let mut list = ItemList::new();
     closing::list_epilogue(layout, &mut list);

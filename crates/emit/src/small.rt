@@ -16,7 +16,7 @@ use steps::probes::inline_probestack;
 
 // A 64-bit constant in a register.
 pub fn load_constant<S: Sink>(rd: Reg, value: u64, sink: &mut S) -> Result<(), Refusal>
-    ensures { PutItems (record { inst = S.InstPrice.Price.units; note = S.NotePrice.Price.units }) (held sink.old) (code (load_constant_of rd value)) (held sink.new) result }
+    ensures { PutItems (record { inst = S.InstPrice.Price.units; note = S.NotePrice.Price.units }) (S.held sink.old) (code (load_constant_of rd value)) (S.held sink.new) result }
 {
     let mut list = ItemList::new();
     adjust::load_constant(rd, value, &mut list);
@@ -25,7 +25,7 @@ pub fn load_constant<S: Sink>(rd: Reg, value: u64, sink: &mut S) -> Result<(), R
 
 // SP by a signed amount.
 pub fn gen_sp_reg_adjust<S: Sink>(amount: i32, sink: &mut S) -> Result<(), Refusal>
-    ensures { PutPiece (record { inst = S.InstPrice.Price.units; note = S.NotePrice.Price.units }) (held sink.old) (code (gen_sp_reg_adjust_of amount)) (held sink.new) result }
+    ensures { PutPiece (record { inst = S.InstPrice.Price.units; note = S.NotePrice.Price.units }) (S.held sink.old) (code (gen_sp_reg_adjust_of amount)) (S.held sink.new) result }
 {
     let mut list = ItemList::new();
     adjust::sp_reg_adjust(amount, &mut list);
@@ -45,7 +45,7 @@ pub fn gen_inline_probestack<S: Sink>(
     guard_size: u32,
     sink: &mut S,
 ) -> Result<(), Refusal>
-    ensures { PutProbes (record { inst = S.InstPrice.Price.units; note = S.NotePrice.Price.units }) (held sink.old) frame_size guard_size (held sink.new) result }
+    ensures { PutProbes (record { inst = S.InstPrice.Price.units; note = S.NotePrice.Price.units }) (S.held sink.old) frame_size guard_size (S.held sink.new) result }
 {
     if is_bad_guard(guard_size) {
         return Err(Refusal {

@@ -21,7 +21,7 @@ impl Emitter {
         layout: &FrameLayout,
         sink: &mut S,
     ) -> Result<(), Refusal>
-        ensures { PutPiece (record { inst = S.InstPrice.Price.units; note = S.NotePrice.Price.units }) (held sink.old) (piece_of piece (plain layout.now.sheet)) (held sink.new) result }
+        ensures { PutPiece (record { inst = S.InstPrice.Price.units; note = S.NotePrice.Price.units }) (S.held sink.old) (piece_of piece (plain layout.now.sheet)) (S.held sink.new) result }
     {
         self.list.clear();
         list_piece(piece, layout, &mut self.list);
@@ -39,7 +39,7 @@ impl Emitter {
         layout: &FrameLayout,
         sink: &mut S,
     ) -> Result<(), Refusal>
-        ensures { PutPiece (record { inst = S.InstPrice.Price.units; note = S.NotePrice.Price.units }) (held sink.old) (gen_prologue_frame_setup_of (plain layout.now.sheet)) (held sink.new) result }
+        ensures { PutPiece (record { inst = S.InstPrice.Price.units; note = S.NotePrice.Price.units }) (S.held sink.old) (gen_prologue_frame_setup_of (plain layout.now.sheet)) (S.held sink.new) result }
     {
         self.put(Piece::PrologueFrameSetup, layout, sink)
     }
@@ -50,7 +50,7 @@ impl Emitter {
         layout: &FrameLayout,
         sink: &mut S,
     ) -> Result<(), Refusal>
-        ensures { PutPiece (record { inst = S.InstPrice.Price.units; note = S.NotePrice.Price.units }) (held sink.old) (gen_clobber_save_of (plain layout.now.sheet)) (held sink.new) result }
+        ensures { PutPiece (record { inst = S.InstPrice.Price.units; note = S.NotePrice.Price.units }) (S.held sink.old) (gen_clobber_save_of (plain layout.now.sheet)) (S.held sink.new) result }
     {
         self.put(Piece::ClobberSave, layout, sink)
     }
@@ -61,7 +61,7 @@ impl Emitter {
         layout: &FrameLayout,
         sink: &mut S,
     ) -> Result<(), Refusal>
-        ensures { PutPiece (record { inst = S.InstPrice.Price.units; note = S.NotePrice.Price.units }) (held sink.old) (code (gen_clobber_restore_of (plain layout.now.sheet))) (held sink.new) result }
+        ensures { PutPiece (record { inst = S.InstPrice.Price.units; note = S.NotePrice.Price.units }) (S.held sink.old) (code (gen_clobber_restore_of (plain layout.now.sheet))) (S.held sink.new) result }
     {
         self.put(Piece::ClobberRestore, layout, sink)
     }
@@ -72,14 +72,14 @@ impl Emitter {
         layout: &FrameLayout,
         sink: &mut S,
     ) -> Result<(), Refusal>
-        ensures { PutPiece (record { inst = S.InstPrice.Price.units; note = S.NotePrice.Price.units }) (held sink.old) (code (gen_epilogue_frame_restore_of (plain layout.now.sheet))) (held sink.new) result }
+        ensures { PutPiece (record { inst = S.InstPrice.Price.units; note = S.NotePrice.Price.units }) (S.held sink.old) (code (gen_epilogue_frame_restore_of (plain layout.now.sheet))) (S.held sink.new) result }
     {
         self.put(Piece::EpilogueFrameRestore, layout, sink)
     }
 
     // The return, checked where the address is sealed.
     pub fn gen_return<S: Sink>(&mut self, layout: &FrameLayout, sink: &mut S) -> Result<(), Refusal>
-        ensures { PutPiece (record { inst = S.InstPrice.Price.units; note = S.NotePrice.Price.units }) (held sink.old) (code (gen_return_of (plain layout.now.sheet))) (held sink.new) result }
+        ensures { PutPiece (record { inst = S.InstPrice.Price.units; note = S.NotePrice.Price.units }) (S.held sink.old) (code (gen_return_of (plain layout.now.sheet))) (S.held sink.new) result }
     {
         self.put(Piece::Return, layout, sink)
     }
@@ -90,7 +90,7 @@ impl Emitter {
         layout: &FrameLayout,
         sink: &mut S,
     ) -> Result<(), Refusal>
-        ensures { PutPiece (record { inst = S.InstPrice.Price.units; note = S.NotePrice.Price.units }) (held sink.old) (prologue (plain layout.now.sheet)) (held sink.new) result }
+        ensures { PutPiece (record { inst = S.InstPrice.Price.units; note = S.NotePrice.Price.units }) (S.held sink.old) (prologue (plain layout.now.sheet)) (S.held sink.new) result }
     {
         self.put(Piece::Prologue, layout, sink)
     }
@@ -101,7 +101,7 @@ impl Emitter {
         layout: &FrameLayout,
         sink: &mut S,
     ) -> Result<(), Refusal>
-        ensures { PutPiece (record { inst = S.InstPrice.Price.units; note = S.NotePrice.Price.units }) (held sink.old) (epilogue (plain layout.now.sheet)) (held sink.new) result }
+        ensures { PutPiece (record { inst = S.InstPrice.Price.units; note = S.NotePrice.Price.units }) (S.held sink.old) (epilogue (plain layout.now.sheet)) (S.held sink.new) result }
     {
         self.put(Piece::Epilogue, layout, sink)
     }

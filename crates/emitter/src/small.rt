@@ -23,7 +23,7 @@ impl Emitter {
         value: u64,
         sink: &mut S,
     ) -> Result<(), Refusal>
-        ensures { PutItems (record { inst = S.InstPrice.Price.units; note = S.NotePrice.Price.units }) (held sink.old) (code (load_constant_of rd value)) (held sink.new) result }
+        ensures { PutItems (record { inst = S.InstPrice.Price.units; note = S.NotePrice.Price.units }) (S.held sink.old) (code (load_constant_of rd value)) (S.held sink.new) result }
     {
         self.list.clear();
         adjust::load_constant(rd, value, &mut self.list);
@@ -32,7 +32,7 @@ impl Emitter {
 
     // SP by a signed amount.
     pub fn gen_sp_reg_adjust<S: Sink>(&mut self, amount: i32, sink: &mut S) -> Result<(), Refusal>
-        ensures { PutPiece (record { inst = S.InstPrice.Price.units; note = S.NotePrice.Price.units }) (held sink.old) (code (gen_sp_reg_adjust_of amount)) (held sink.new) result }
+        ensures { PutPiece (record { inst = S.InstPrice.Price.units; note = S.NotePrice.Price.units }) (S.held sink.old) (code (gen_sp_reg_adjust_of amount)) (S.held sink.new) result }
     {
         self.list.clear();
         adjust::sp_reg_adjust(amount, &mut self.list);
@@ -51,7 +51,7 @@ impl Emitter {
         guard_size: u32,
         sink: &mut S,
     ) -> Result<(), Refusal>
-        ensures { PutProbes (record { inst = S.InstPrice.Price.units; note = S.NotePrice.Price.units }) (held sink.old) frame_size guard_size (held sink.new) result }
+        ensures { PutProbes (record { inst = S.InstPrice.Price.units; note = S.NotePrice.Price.units }) (S.held sink.old) frame_size guard_size (S.held sink.new) result }
     {
         if is_bad_guard(guard_size) {
             return Err(Refusal {

@@ -55,9 +55,9 @@ fn affordable(items: &[Item], inst: u32, note: u32, room: usize) -> bool
 
 // Puts the items one by one, where none is refused.
 fn put_all<S: Sink>(sink: &mut S, items: &[Item]) -> Result<(), Refusal>
-    requires fact { ∥ AllRead items.now ∥₁ }
-    requires bound { cost_of (record { inst = S.InstPrice.Price.units; note = S.NotePrice.Price.units }) items.now ≤ (held sink.old).room }
-    ensures { MatchResult result (λ _. held sink.new ≡ with_items (record { inst = S.InstPrice.Price.units; note = S.NotePrice.Price.units }) (held sink.old) items.now) (λ _. ⊥) }
+    requires read { ∥ AllRead items.now ∥₁ }
+    requires bound { cost_of (record { inst = S.InstPrice.Price.units; note = S.NotePrice.Price.units }) items.now ≤ (S.held sink.old).room }
+    ensures { MatchResult result (λ _. S.held sink.new ≡ with_items (record { inst = S.InstPrice.Price.units; note = S.NotePrice.Price.units }) (S.held sink.old) items.now) (λ _. ⊥) }
 {
     for item in items {
         match item {
@@ -70,7 +70,7 @@ fn put_all<S: Sink>(sink: &mut S, items: &[Item]) -> Result<(), Refusal>
 
 // Puts readable items in order, or none of them: the whole price is tried against the room first.
 pub fn put_readable<S: Sink>(sink: &mut S, list: Readable<'_>) -> Result<(), Refusal>
-    ensures { PutPiece (record { inst = S.InstPrice.Price.units; note = S.NotePrice.Price.units }) (held sink.old) list.entry.items.now (held sink.new) result }
+    ensures { PutPiece (record { inst = S.InstPrice.Price.units; note = S.NotePrice.Price.units }) (S.held sink.old) list.entry.items.now (S.held sink.new) result }
 {
     let room = sink.room();
     let items = list.items;
@@ -83,7 +83,7 @@ pub fn put_readable<S: Sink>(sink: &mut S, list: Readable<'_>) -> Result<(), Ref
 
 // Puts the items in order, or none of them: each instruction is tried first, then the whole price against the room.
 pub fn put_items<S: Sink>(sink: &mut S, items: &[Item]) -> Result<(), Refusal>
-    ensures { PutItems (record { inst = S.InstPrice.Price.units; note = S.NotePrice.Price.units }) (held sink.old) items.now (held sink.new) result }
+    ensures { PutItems (record { inst = S.InstPrice.Price.units; note = S.NotePrice.Price.units }) (S.held sink.old) items.now (S.held sink.new) result }
 {
     match readable(items) {
         Ok(_) => {}

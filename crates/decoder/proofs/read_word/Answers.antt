@@ -3,4 +3,4 @@ use Rattle.decoder.proofs.Laws.{reads, only}
 use Rattle.decoder.proofs.read_word.Goals as goal
 
 pub returns : goal.returns
-returns c = rw c.by-head.ensures (record { reading = refl; reads = reads c.args.w; only = only c.args.w })
+returns c = rw c.by_head.ensures (record { reading = refl; reads = reads c.args.w; only = only c.args.w })

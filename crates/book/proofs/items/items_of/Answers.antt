@@ -8,6 +8,6 @@ pub returns : goal.returns
 returns c =
     let good = piece_good c.args.piece (plain c.args.layout.now.sheet) in
     record {
-      items = whole c.new-list.result c.list-piece.new.list (piece_of c.args.piece (plain c.args.layout.now.sheet)) c.new-list.ensures c.list-piece.ensures good.short;
+      items = whole c.new-list.result c.list_piece.new.list (piece_of c.args.piece (plain c.args.layout.now.sheet)) c.new-list.ensures c.list_piece.ensures good.short;
       read = good.read;
     }

@@ -6,11 +6,11 @@ use Rattle.book.proofs.limits.count_items.Goals.{in-Inst, in-Note}
 pub loop-item-init : goal.loop-item-init
 loop-item-init c = counted_none c.args.items.now
 
-pub overflow-add-insts : goal.overflow-add-insts
-overflow-add-insts c = let b = c.loop-item.invariant.both in search rules
+pub overflow_add-insts : goal.overflow_add-insts
+overflow_add-insts c = let b = c.loop-item.invariant.both in search rules
 
-pub overflow-add-notes : goal.overflow-add-notes
-overflow-add-notes c = let b = c.loop-item.invariant.both in search rules
+pub overflow_add-notes : goal.overflow_add-notes
+overflow_add-notes c = let b = c.loop-item.invariant.both in search rules
 
 pub loop-item-preserved : goal.loop-item-preserved
 loop-item-preserved c =

@@ -6,16 +6,16 @@ use Rattle.book.proofs.play.play.Goals as goal
 pub loop-call-init : goal.loop-call-init
 loop-call-init g c = (λ r s. midway_none _ r _ _ _ _ s (search rules), search rules, search rules)
 
-pub push-reserved-requires : goal.push-reserved-requires
-push-reserved-requires g c = let i = c.loop-call.invariant in omega arith
+pub push_reserved-requires : goal.push_reserved-requires
+push_reserved-requires g c = let i = c.loop-call.invariant in omega arith
 
 pub loop-call-preserved : goal.loop-call-preserved
 loop-call-preserved g c = (
-  λ r s. midway_more _ r _ _ _ _ c.args.calls.now c.loop-call.call-index _ _ _ _ (c.loop-call.invariant.0 r s) c.loop-call-test.true c.step-answer.ensures c.push-reserved.ensures.items,
+  λ r s. midway_more _ r _ _ _ _ c.args.calls.now c.loop-call.call-index _ _ _ _ (c.loop-call.invariant.0 r s) c.loop-call-test.true c.step-answer.ensures c.push_reserved.ensures.items,
   search rules,
   search rules,
 )
 
 pub returns : goal.returns
 returns g c =
-    right (priced g.InstPrice.Price.units g.NotePrice.Price.units) _ _ _ c.args.calls.now c.loop-call.call-index _ (c.loop-call.invariant.0 _ c.in-ok-book.ensures) c.loop-call-test.false
+    right (priced g.InstPrice.Price.units g.NotePrice.Price.units) _ _ _ c.args.calls.now c.loop-call.call-index _ (c.loop-call.invariant.0 _ c.in_ok-book.ensures) c.loop-call-test.false

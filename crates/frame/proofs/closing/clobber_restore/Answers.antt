@@ -10,8 +10,8 @@ use Rattle.frame.proofs.closing.clobber_restore.Goals as goal
 
 pub returns : goal.returns
 returns c =
-    then_code c.args.list.now c.sp-by.new.list c.restore-all.new.list
+    then_code c.args.list.now c.sp_by.new.list c.restore_all.new.list
     (sp_by_of AddSub.Add (stack_size_of (plain c.args.layout.now.sheet))) (restore_slots (slots_of (plain c.args.layout.now.sheet)))
-    (renamed c.args.list.now c.sp-by.new.list (code (sp_by_of AddSub.Add c.stack-size.result)) (code (sp_by_of AddSub.Add (stack_size_of (plain c.args.layout.now.sheet))))
-    (ap (λ n. code (sp_by_of AddSub.Add n)) c.stack-size.ensures) c.sp-by.ensures)
-    c.restore-all.ensures
+    (renamed c.args.list.now c.sp_by.new.list (code (sp_by_of AddSub.Add c.stack_size.result)) (code (sp_by_of AddSub.Add (stack_size_of (plain c.args.layout.now.sheet))))
+    (ap (λ n. code (sp_by_of AddSub.Add n)) c.stack_size.ensures) c.sp_by.ensures)
+    c.restore_all.ensures

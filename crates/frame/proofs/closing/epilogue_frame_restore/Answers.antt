@@ -10,8 +10,8 @@ use Rattle.frame.proofs.closing.epilogue_frame_restore.Goals as goal
 
 pub returns : goal.returns
 returns c =
-    then_code c.args.list.now c.pop-frame.new.list c.sp-by.new.list
+    then_code c.args.list.now c.pop_frame.new.list c.sp_by.new.list
     (frame_popped (plain c.args.layout.now.sheet)) (sp_by_of AddSub.Add (callee_pop_size_of (plain c.args.layout.now.sheet)))
-    c.pop-frame.ensures
-    (renamed c.pop-frame.new.list c.sp-by.new.list (code (sp_by_of AddSub.Add c.callee-pop-size.result)) (code (sp_by_of AddSub.Add (callee_pop_size_of (plain c.args.layout.now.sheet))))
-    (ap (λ n. code (sp_by_of AddSub.Add n)) c.callee-pop-size.ensures) c.sp-by.ensures)
+    c.pop_frame.ensures
+    (renamed c.pop_frame.new.list c.sp_by.new.list (code (sp_by_of AddSub.Add c.callee_pop_size.result)) (code (sp_by_of AddSub.Add (callee_pop_size_of (plain c.args.layout.now.sheet))))
+    (ap (λ n. code (sp_by_of AddSub.Add n)) c.callee_pop_size.ensures) c.sp_by.ensures)

@@ -7,9 +7,9 @@ use Rattle.frame.proofs.closing.list_epilogue.Goals as goal
 pub returns : goal.returns
 unfolding epilogue
 returns c =
-    then_code c.args.list.now c.clobber-restore.new.list c.list-return.new.list
+    then_code c.args.list.now c.clobber_restore.new.list c.list_return.new.list
     (gen_clobber_restore_of (plain c.args.layout.now.sheet)) (gen_epilogue_frame_restore_of (plain c.args.layout.now.sheet) ++ gen_return_of (plain c.args.layout.now.sheet))
-    c.clobber-restore.ensures
-    (then_code c.clobber-restore.new.list c.epilogue-frame-restore.new.list c.list-return.new.list
+    c.clobber_restore.ensures
+    (then_code c.clobber_restore.new.list c.epilogue_frame_restore.new.list c.list_return.new.list
     (gen_epilogue_frame_restore_of (plain c.args.layout.now.sheet)) (gen_return_of (plain c.args.layout.now.sheet))
-    c.epilogue-frame-restore.ensures c.list-return.ensures)
+    c.epilogue_frame_restore.ensures c.list_return.ensures)

@@ -7,7 +7,7 @@ use Rattle.item_list.specs.Items.{code}
 use Rattle.item_list.proofs.Joins.{nothing}
 use Rattle.frame.proofs.closing.pop_frame.Goals as goal
 
-pub returns-else-has-setup : goal.returns-else-has-setup
-returns-else-has-setup c =
+pub returns-else-has_setup : goal.returns-else-has_setup
+returns-else-has_setup c =
     nothing c.args.list.now (code (frame_popped (plain c.args.layout.now.sheet)))
-    (ap (λ (b : Bool). code (cond b (pop_pair_of PairClass.X 29 30 ∷ []) [])) c.if-has-setup.ensures)
+    (ap (λ (b : Bool). code (cond b (pop_pair_of PairClass.X 29 30 ∷ []) [])) c.if-has_setup.ensures)

@@ -11,14 +11,14 @@ use Rattle.frame.proofs.closing.restore_all.Goals as goal
 pub loop-k-init : goal.loop-k-init
 loop-k-init c = refl
 
-pub slot-at-requires : goal.slot-at-requires
-slot-at-requires c = omega (arith, slot_count c.args.layout.now)
+pub slot_at-requires : goal.slot_at-requires
+slot_at-requires c = omega (arith, slot_count c.args.layout.now)
 
 pub loop-k-preserved : goal.loop-k-preserved
 loop-k-preserved c =
     let lt : c.loop-k.k < length (slots_of (plain c.args.layout.now.sheet)) = omega (arith, slot_count c.args.layout.now) in
     restore_put c.loop-k.list c.inst.new.self (joined (listed c.args.list.now) (code (restore_slots (slots_of (plain c.args.layout.now.sheet)))))
-    (slots_of (plain c.args.layout.now.sheet)) c.loop-k.k (as_slot c.slot-at.result) c.pop-of.result lt c.slot-at.ensures.slot c.pop-of.ensures c.loop-k.invariant c.inst.ensures
+    (slots_of (plain c.args.layout.now.sheet)) c.loop-k.k (as_slot c.slot_at.result) c.pop_of.result lt c.slot_at.ensures.slot c.pop_of.ensures c.loop-k.invariant c.inst.ensures
 
 pub returns : goal.returns
 returns c =

@@ -8,16 +8,16 @@ use Rattle.item_list.proofs.Joins.{nothing}
 use Rattle.frame.proofs.Sizes.{accepted_sheet, setup_small}
 use Rattle.frame.proofs.opening.define_frame.Goals as goal
 
-pub overflow-add-layout : goal.overflow-add-layout
-overflow-add-layout c =
+pub overflow_add-layout : goal.overflow_add-layout
+overflow_add-layout c =
     let s = (accepted_sheet c.args.layout.now.sheet).sum in
-    let d = c.incoming-args-diff.ensures in
+    let d = c.incoming_args_diff.ensures in
     let t = setup_small (plain c.args.layout.now.sheet) in
     let u = c.args.layout.now.setup_rule in
     omega arith
 
-pub returns-else-has-setup : goal.returns-else-has-setup
-returns-else-has-setup c =
+pub returns-else-has_setup : goal.returns-else-has_setup
+returns-else-has_setup c =
     nothing c.args.list.now (defines (plain c.args.layout.now.sheet))
     (ap (λ (b : Bool). cond b (noting (plain c.args.layout.now.sheet) (DefineNewFrame (setup_size (plain c.args.layout.now.sheet) + incoming_args_diff_of (plain c.args.layout.now.sheet)) (clobber_size_of (plain c.args.layout.now.sheet)))) [])
-    c.if-has-setup.ensures)
+    c.if-has_setup.ensures)

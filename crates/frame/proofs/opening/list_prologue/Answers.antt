@@ -8,9 +8,9 @@ use Rattle.frame.proofs.opening.list_prologue.Goals as goal
 pub returns : goal.returns
 unfolding prologue
 returns c =
-    then c.args.list.now c.prologue-frame-setup.new.list c.clobber-save.new.list
+    then c.args.list.now c.prologue_frame_setup.new.list c.clobber_save.new.list
     (gen_prologue_frame_setup_of (plain c.args.layout.now.sheet)) (probes (plain c.args.layout.now.sheet) ++ gen_clobber_save_of (plain c.args.layout.now.sheet))
-    c.prologue-frame-setup.ensures
-    (then c.prologue-frame-setup.new.list c.probe-frame.new.list c.clobber-save.new.list
+    c.prologue_frame_setup.ensures
+    (then c.prologue_frame_setup.new.list c.probe_frame.new.list c.clobber_save.new.list
     (probes (plain c.args.layout.now.sheet)) (gen_clobber_save_of (plain c.args.layout.now.sheet))
-    c.probe-frame.ensures c.clobber-save.ensures)
+    c.probe_frame.ensures c.clobber_save.ensures)

@@ -7,17 +7,17 @@ use Rattle.frame.specs.Pieces.{tail_reload_of}
 use Rattle.item_list.proofs.Joins.{nothing, renamed, same_inst, then_code}
 use Rattle.frame.proofs.opening.move_frame.Goals as goal
 
-pub returns-then-has-setup : goal.returns-then-has-setup
-returns-then-has-setup c =
-    renamed c.args.list.now c.inst-then-has-setup.new.self (code (tail_reload_of c.args.amount ++ (store_fp_lr ∷ mov_fp_sp_of ∷ []))) (moved (plain c.args.layout.now.sheet) c.args.amount)
-    (ap (λ (b : Bool). code (cond b (tail_reload_of c.args.amount ++ (store_fp_lr ∷ mov_fp_sp_of ∷ [])) [])) c.if-has-setup.ensures)
-    (then_code c.args.list.now c.tail-reload.new.list c.inst-then-has-setup.new.self (tail_reload_of c.args.amount) (store_fp_lr ∷ mov_fp_sp_of ∷ [])
-    c.tail-reload.ensures
-    (then_code c.tail-reload.new.list c.inst.new.self c.inst-then-has-setup.new.self (store_fp_lr ∷ []) (mov_fp_sp_of ∷ [])
+pub returns-then-has_setup : goal.returns-then-has_setup
+returns-then-has_setup c =
+    renamed c.args.list.now c.inst-then-has_setup.new.self (code (tail_reload_of c.args.amount ++ (store_fp_lr ∷ mov_fp_sp_of ∷ []))) (moved (plain c.args.layout.now.sheet) c.args.amount)
+    (ap (λ (b : Bool). code (cond b (tail_reload_of c.args.amount ++ (store_fp_lr ∷ mov_fp_sp_of ∷ [])) [])) c.if-has_setup.ensures)
+    (then_code c.args.list.now c.tail_reload.new.list c.inst-then-has_setup.new.self (tail_reload_of c.args.amount) (store_fp_lr ∷ mov_fp_sp_of ∷ [])
+    c.tail_reload.ensures
+    (then_code c.tail_reload.new.list c.inst.new.self c.inst-then-has_setup.new.self (store_fp_lr ∷ []) (mov_fp_sp_of ∷ [])
     c.inst.ensures
-    (same_inst c.inst.new.self c.inst-then-has-setup.new.self c.mov-fp-sp.result mov_fp_sp_of c.mov-fp-sp.ensures c.inst-then-has-setup.ensures)))
+    (same_inst c.inst.new.self c.inst-then-has_setup.new.self c.mov_fp_sp.result mov_fp_sp_of c.mov_fp_sp.ensures c.inst-then-has_setup.ensures)))
 
-pub returns-else-has-setup : goal.returns-else-has-setup
-returns-else-has-setup c =
+pub returns-else-has_setup : goal.returns-else-has_setup
+returns-else-has_setup c =
     nothing c.args.list.now (moved (plain c.args.layout.now.sheet) c.args.amount)
-    (ap (λ (b : Bool). code (cond b (tail_reload_of c.args.amount ++ (store_fp_lr ∷ mov_fp_sp_of ∷ [])) [])) c.if-has-setup.ensures)
+    (ap (λ (b : Bool). code (cond b (tail_reload_of c.args.amount ++ (store_fp_lr ∷ mov_fp_sp_of ∷ [])) [])) c.if-has_setup.ensures)

@@ -6,6 +6,6 @@ use Rattle.frame.proofs.opening.prologue_frame_setup.Goals as goal
 
 pub returns : goal.returns
 returns c =
-    then c.args.list.now c.seal.new.list c.push-frame.new.list
+    then c.args.list.now c.seal.new.list c.push_frame.new.list
     (sealed (plain c.args.layout.now.sheet) (select_api_key_of (plain c.args.layout.now.sheet))) (frame_pushed (plain c.args.layout.now.sheet))
-    c.seal.ensures c.push-frame.ensures
+    c.seal.ensures c.push_frame.ensures

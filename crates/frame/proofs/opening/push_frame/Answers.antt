@@ -10,25 +10,25 @@ use Rattle.frame.specs.Pieces.{noting}
 use Rattle.item_list.proofs.Joins.{nothing, renamed, same_inst, then}
 use Rattle.frame.proofs.opening.push_frame.Goals as goal
 
-pub returns-then-has-setup : goal.returns-then-has-setup
-returns-then-has-setup c =
-    renamed c.args.list.now c.inst-then-has-setup.new.self
+pub returns-then-has_setup : goal.returns-then-has_setup
+returns-then-has_setup c =
+    renamed c.args.list.now c.inst-then-has_setup.new.self
     (Item.Inst (push_pair_of PairClass.X 29 30) ∷ (noting (plain c.args.layout.now.sheet) (PushFrameRegs (setup_size (plain c.args.layout.now.sheet))) ++ (Item.Inst mov_fp_sp_of ∷ [])))
     (frame_pushed (plain c.args.layout.now.sheet))
     (ap (λ (b : Bool). cond b (Item.Inst (push_pair_of PairClass.X 29 30) ∷ (noting (plain c.args.layout.now.sheet) (PushFrameRegs (setup_size (plain c.args.layout.now.sheet))) ++ (Item.Inst mov_fp_sp_of ∷ []))) [])
-    c.if-has-setup.ensures)
-    (then c.args.list.now c.inst.new.self c.inst-then-has-setup.new.self (Item.Inst (push_pair_of PairClass.X 29 30) ∷ [])
+    c.if-has_setup.ensures)
+    (then c.args.list.now c.inst.new.self c.inst-then-has_setup.new.self (Item.Inst (push_pair_of PairClass.X 29 30) ∷ [])
     (noting (plain c.args.layout.now.sheet) (PushFrameRegs (setup_size (plain c.args.layout.now.sheet))) ++ (Item.Inst mov_fp_sp_of ∷ []))
-    (same_inst c.args.list.now c.inst.new.self c.push-pair.result (push_pair_of PairClass.X 29 30) c.push-pair.ensures c.inst.ensures)
-    (then c.inst.new.self c.unwind.new.list c.inst-then-has-setup.new.self
+    (same_inst c.args.list.now c.inst.new.self c.push_pair.result (push_pair_of PairClass.X 29 30) c.push_pair.ensures c.inst.ensures)
+    (then c.inst.new.self c.unwind.new.list c.inst-then-has_setup.new.self
     (noting (plain c.args.layout.now.sheet) (PushFrameRegs (setup_size (plain c.args.layout.now.sheet)))) (Item.Inst mov_fp_sp_of ∷ [])
     (renamed c.inst.new.self c.unwind.new.list (noting (plain c.args.layout.now.sheet) (PushFrameRegs c.args.layout.now.setup_area_size))
     (noting (plain c.args.layout.now.sheet) (PushFrameRegs (setup_size (plain c.args.layout.now.sheet))))
     (ap (λ (n : ℕ). noting (plain c.args.layout.now.sheet) (PushFrameRegs n)) c.args.layout.now.setup_rule) c.unwind.ensures)
-    (same_inst c.unwind.new.list c.inst-then-has-setup.new.self c.mov-fp-sp.result mov_fp_sp_of c.mov-fp-sp.ensures c.inst-then-has-setup.ensures)))
+    (same_inst c.unwind.new.list c.inst-then-has_setup.new.self c.mov_fp_sp.result mov_fp_sp_of c.mov_fp_sp.ensures c.inst-then-has_setup.ensures)))
 
-pub returns-else-has-setup : goal.returns-else-has-setup
-returns-else-has-setup c =
+pub returns-else-has_setup : goal.returns-else-has_setup
+returns-else-has_setup c =
     nothing c.args.list.now (frame_pushed (plain c.args.layout.now.sheet))
     (ap (λ (b : Bool). cond b (Item.Inst (push_pair_of PairClass.X 29 30) ∷ (noting (plain c.args.layout.now.sheet) (PushFrameRegs (setup_size (plain c.args.layout.now.sheet))) ++ (Item.Inst mov_fp_sp_of ∷ []))) [])
-    c.if-has-setup.ensures)
+    c.if-has_setup.ensures)

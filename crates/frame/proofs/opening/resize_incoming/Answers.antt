@@ -4,9 +4,9 @@ use Rattle.frame.proofs.opening.resize_incoming.Goals as goal
 
 pub returns-then-diff-gt0 : goal.returns-then-diff-gt0
 returns-then-diff-gt0 c =
-    grows_some (plain c.args.layout.now.sheet) c.args.list.now c.sp-by.new.list c.unwind.new.list c.move-frame.new.list c.incoming-args-diff-diff.result
-    c.incoming-args-diff-diff.ensures c.if-diff-gt0.true c.sp-by.ensures c.unwind.ensures c.move-frame.ensures
+    grows_some (plain c.args.layout.now.sheet) c.args.list.now c.sp_by.new.list c.unwind.new.list c.move_frame.new.list c.incoming_args_diff-diff.result
+    c.incoming_args_diff-diff.ensures c.if-diff-gt0.true c.sp_by.ensures c.unwind.ensures c.move_frame.ensures
 
 pub returns-else-diff-gt0 : goal.returns-else-diff-gt0
 returns-else-diff-gt0 c =
-    grows_none (plain c.args.layout.now.sheet) c.args.list.now c.incoming-args-diff-diff.result c.incoming-args-diff-diff.ensures c.if-diff-gt0.false
+    grows_none (plain c.args.layout.now.sheet) c.args.list.now c.incoming_args_diff-diff.result c.incoming_args_diff-diff.ensures c.if-diff-gt0.false

@@ -12,16 +12,16 @@ loop-k-init c =
     save_start (listed c.args.list.now) (plain c.args.layout.now.sheet) (slots_of (plain c.args.layout.now.sheet)) (c.args.layout.now.clobber_size / 16)
     (slot_count c.args.layout.now)
 
-pub slot-at-requires : goal.slot-at-requires
-slot-at-requires c = omega (arith, slot_count c.args.layout.now)
+pub slot_at-requires : goal.slot_at-requires
+slot_at-requires c = omega (arith, slot_count c.args.layout.now)
 
 pub loop-k-preserved : goal.loop-k-preserved
 loop-k-preserved c =
     let le : c.loop-k.k ≤ length (slots_of (plain c.args.layout.now.sheet)) = omega (arith, slot_count c.args.layout.now) in
-    save_put c.loop-k.list c.save-slot.new.list
+    save_put c.loop-k.list c.save_slot.new.list
     (joined (listed c.args.list.now) (save_slots (plain c.args.layout.now.sheet) (slots_of (plain c.args.layout.now.sheet)) 0))
-    (plain c.args.layout.now.sheet) (slots_of (plain c.args.layout.now.sheet)) c.loop-k.k (as_slot c.slot-at.result)
-    c.loop-k-test.true le c.slot-at.ensures.slot c.loop-k.invariant c.save-slot.ensures
+    (plain c.args.layout.now.sheet) (slots_of (plain c.args.layout.now.sheet)) c.loop-k.k (as_slot c.slot_at.result)
+    c.loop-k-test.true le c.slot_at.ensures.slot c.loop-k.invariant c.save_slot.ensures
 
 pub returns : goal.returns
 returns c =

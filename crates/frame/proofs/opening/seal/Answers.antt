@@ -5,15 +5,15 @@ use Rattle.frame.proofs.opening.seal.Goals as goal
 
 pub returns-in-Some : goal.returns-in-Some
 returns-in-Some c =
-    seal_some c.args.list.now c.landing-pad.new.list c.inst.new.self c.unwind.new.list (plain c.args.layout.now.sheet) c.in-Some.key
-    (select_api_key_of (plain c.args.layout.now.sheet)) c.needs-pad.result c.in-Some.ensures c.needs-pad.ensures c.landing-pad.ensures c.inst.ensures c.unwind.ensures
+    seal_some c.args.list.now c.landing_pad.new.list c.inst.new.self c.unwind.new.list (plain c.args.layout.now.sheet) c.in-Some.key
+    (select_api_key_of (plain c.args.layout.now.sheet)) c.needs_pad.result c.in-Some.ensures c.needs_pad.ensures c.landing_pad.ensures c.inst.ensures c.unwind.ensures
 
 pub returns-then-is : goal.returns-then-is
 returns-then-is c =
-    seal_none c.args.list.now c.landing-pad-in-None.new.list c.unwind-then-is.last.list (plain c.args.layout.now.sheet)
-    (select_api_key_of (plain c.args.layout.now.sheet)) c.in-None.ensures c.if-is.ensures c.landing-pad-in-None.ensures c.unwind-then-is.ensures
+    seal_none c.args.list.now c.landing_pad-in-None.new.list c.unwind-then-is.last.list (plain c.args.layout.now.sheet)
+    (select_api_key_of (plain c.args.layout.now.sheet)) c.in-None.ensures c.if-is.ensures c.landing_pad-in-None.ensures c.unwind-then-is.ensures
 
 pub returns-else-is : goal.returns-else-is
 returns-else-is c =
-    seal_bare c.args.list.now c.landing-pad-in-None.new.list (plain c.args.layout.now.sheet)
-    (select_api_key_of (plain c.args.layout.now.sheet)) c.in-None.ensures c.if-is.ensures c.landing-pad-in-None.ensures
+    seal_bare c.args.list.now c.landing_pad-in-None.new.list (plain c.args.layout.now.sheet)
+    (select_api_key_of (plain c.args.layout.now.sheet)) c.in-None.ensures c.if-is.ensures c.landing_pad-in-None.ensures

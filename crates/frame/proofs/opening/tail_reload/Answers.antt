@@ -17,5 +17,5 @@ pub returns-in-None : goal.returns-in-None
 returns-in-None c =
     renamed c.args.list.now c.inst-in-None.new.self (code (load_constant_of spilltmp c.args.amount ++ (load_fp_far ∷ []))) (code (tail_reload_of c.args.amount))
     (ap code (reload_is c.args.amount None c.in-None.ensures))
-    (then_code c.args.list.now c.load-constant.new.list c.inst-in-None.new.self (load_constant_of spilltmp c.args.amount) (load_fp_far ∷ [])
-    c.load-constant.ensures c.inst-in-None.ensures)
+    (then_code c.args.list.now c.load_constant.new.list c.inst-in-None.new.self (load_constant_of spilltmp c.args.amount) (load_fp_far ∷ [])
+    c.load_constant.ensures c.inst-in-None.ensures)

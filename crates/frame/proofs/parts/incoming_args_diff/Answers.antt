@@ -1,5 +1,5 @@
 use Rattle.frame.proofs.Sizes.{accepted_sheet}
 use Rattle.frame.proofs.parts.incoming_args_diff.Goals as goal
 
-pub overflow-sub-result : goal.overflow-sub-result
-overflow-sub-result c = (accepted_sheet c.args.layout.now.sheet).larger
+pub overflow_sub-result : goal.overflow_sub-result
+overflow_sub-result c = (accepted_sheet c.args.layout.now.sheet).larger

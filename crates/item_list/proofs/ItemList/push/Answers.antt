@@ -4,9 +4,9 @@ use Rattle.item_list.specs.Lists.{listed, joined}
 use Rattle.sink.specs.declared.item.Item.{Item}
 use Rattle.item_list.proofs.ItemList.push.Goals as goal
 
-pub returns-then-self-lt-CELL-COUNT : goal.returns-then-self-lt-CELL-COUNT
+pub returns-then-self-lt-CELL_COUNT : goal.returns-then-self-lt-CELL_COUNT
 unfolding joined
-returns-then-self-lt-CELL-COUNT c =
+returns-then-self-lt-CELL_COUNT c =
     let xs : List Item = listed c.args.self.now in
     let f0 = c.args.self.now.full in
     let lt : c.args.self.now.count < length c.args.self.now.cells = omega arith in
@@ -16,9 +16,9 @@ returns-then-self-lt-CELL-COUNT c =
     take_more_set c.args.self.now.cells c.args.self.now.count c.args.x lt
     ∙ sym (take_all 160 (xs ++ c.args.x ∷ []) le)
 
-pub returns-else-self-lt-CELL-COUNT : goal.returns-else-self-lt-CELL-COUNT
+pub returns-else-self-lt-CELL_COUNT : goal.returns-else-self-lt-CELL_COUNT
 unfolding joined
-returns-else-self-lt-CELL-COUNT c =
+returns-else-self-lt-CELL_COUNT c =
     let xs : List Item = listed c.args.self.now in
     let long = c.args.self.now.full in
     let e = length-take c.args.self.now.count c.args.self.now.cells in

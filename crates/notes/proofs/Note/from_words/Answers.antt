@@ -11,7 +11,7 @@ pub returns-else-parts-first : goal.returns-else-parts-first
 returns-else-parts-first c n fits e =
     let w = words_back c.args.first c.args.a c.args.b n fits e in
     let p : c.parts-parts.result ≡ parts_of n.inst =
-    c.parts-parts.ensures.value ∙ ap (λ (m : Note). parts_of m.inst) (c.note-from-note.ensures ∙ w.0) in
+    c.parts-parts.ensures.value ∙ ap (λ (m : Note). parts_of m.inst) (c.note_from-note.ensures ∙ w.0) in
     elim c.else-parts-first.branch [
       | else-parts-first-via-then-parts-first+then-parts-a+else-parts-b v ↦ v.if-parts-b.false (ap (λ (q : Parts). q.b) p ∙ w.3)
       | else-parts-first-via-then-parts-first+else-parts-a v ↦ v.if-parts-a.false (ap (λ (q : Parts). q.a) p ∙ w.2)

@@ -1,4 +1,4 @@
 use Rattle.sink.proofs.item.put_items.Goals as goal
 
-pub invariant-of-put-readable : goal.invariant-of-put-readable
-invariant-of-put-readable g c = (∣ c.in-Ok.ensures ∣₁, tt)
+pub invariant_of-put_readable : goal.invariant_of-put_readable
+invariant_of-put_readable g c = record { read = ∣ c.in-Ok.ensures ∣₁ }

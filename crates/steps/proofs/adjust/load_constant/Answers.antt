@@ -21,22 +21,22 @@ loop-shift-preserved c =
           let f : c.if-bits-ne0.first ≡ false = cc in
           ap (λ (y : ItemList). joined (listed y) (rest c.if-bits-ne0.first c.args.rd c.args.value (c.loop-shift.shift + 1))) l
           ∙ ap (λ (b : Bool). joined (listed w.inst.new.self) (rest b c.args.rd c.args.value (c.loop-shift.shift + 1))) f
-          ∙ part_put c.loop-shift.list w.inst.new.self g c.loop-shift.first c.args.rd c.args.value c.loop-shift.shift c.part-of-bits.result w.move-wide.result
-          lt c.part-of-bits.ensures w.if-bits-ne0.true w.move-wide.ensures c.loop-shift.invariant w.inst.ensures
+          ∙ part_put c.loop-shift.list w.inst.new.self g c.loop-shift.first c.args.rd c.args.value c.loop-shift.shift c.part_of-bits.result w.move_wide.result
+          lt c.part_of-bits.ensures w.if-bits-ne0.true w.move_wide.ensures c.loop-shift.invariant w.inst.ensures
       | else-bits-ne0 w ↦
           let l : c.if-bits-ne0.list ≡ c.loop-shift.list = cc in
           let f : c.if-bits-ne0.first ≡ c.loop-shift.first = cc in
           ap (λ (y : ItemList). joined (listed y) (rest c.if-bits-ne0.first c.args.rd c.args.value (c.loop-shift.shift + 1))) l
           ∙ ap (λ (b : Bool). joined (listed c.loop-shift.list) (rest b c.args.rd c.args.value (c.loop-shift.shift + 1))) f
-          ∙ ap (joined (listed c.loop-shift.list)) (sym (rest_skip c.loop-shift.first c.args.rd c.args.value c.loop-shift.shift lt (sym c.part-of-bits.ensures ∙ w.if-bits-ne0.false)))
+          ∙ ap (joined (listed c.loop-shift.list)) (sym (rest_skip c.loop-shift.first c.args.rd c.args.value c.loop-shift.shift lt (sym c.part_of-bits.ensures ∙ w.if-bits-ne0.false)))
           ∙ c.loop-shift.invariant
     ]
 
 pub returns-then-first : goal.returns-then-first
 returns-then-first c =
     last_put c.loop-shift.list c.inst-then-first.new.self (joined (listed c.args.list.now) (code (load_constant_of c.args.rd c.args.value)))
-    c.loop-shift.first c.args.rd c.args.value c.loop-shift.shift c.move-wide-then-first.result
-    c.if-first.true (omega arith) c.move-wide-then-first.ensures c.loop-shift.invariant c.inst-then-first.ensures
+    c.loop-shift.first c.args.rd c.args.value c.loop-shift.shift c.move_wide-then-first.result
+    c.if-first.true (omega arith) c.move_wide-then-first.ensures c.loop-shift.invariant c.inst-then-first.ensures
 
 pub returns-else-first : goal.returns-else-first
 returns-else-first c =

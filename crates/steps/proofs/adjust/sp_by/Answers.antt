@@ -23,5 +23,5 @@ returns-in-None c =
     renamed c.args.list.now c.inst-in-None.new.self (code (load_constant_of spilltmp c.args.amount ++ (AddSubExt c.args.op sp sp spilltmp ∷ [])))
     (code (sp_by_of c.args.op c.args.amount))
     (ap code (sp_some c.args.op c.args.amount None c.if-amount-eq0.false c.in-None.ensures))
-    (then_code c.args.list.now c.load-constant.new.list c.inst-in-None.new.self (load_constant_of spilltmp c.args.amount) (AddSubExt c.args.op sp sp spilltmp ∷ [])
-    c.load-constant.ensures c.inst-in-None.ensures)
+    (then_code c.args.list.now c.load_constant.new.list c.inst-in-None.new.self (load_constant_of spilltmp c.args.amount) (AddSubExt c.args.op sp sp spilltmp ∷ [])
+    c.load_constant.ensures c.inst-in-None.ensures)

@@ -9,6 +9,6 @@ pub returns : goal.returns
 returns c =
     let z : ℤ = to_z w32 (of_z w32 c.args.amount) in
     let e : to_z w32 (of_z w32 c.args.amount) ≡ c.args.amount = search rules in
-    renamed c.args.list.now c.sp-by.new.list (code (sp_by_of c.op-of.result c.size-of.result)) (code (gen_sp_reg_adjust_of c.args.amount))
-    (ap code (adjust_is z c.op-of.result c.size-of.result c.op-of.ensures c.size-of.ensures ∙ ap gen_sp_reg_adjust_of e))
-    c.sp-by.ensures
+    renamed c.args.list.now c.sp_by.new.list (code (sp_by_of c.op_of.result c.size_of.result)) (code (gen_sp_reg_adjust_of c.args.amount))
+    (ap code (adjust_is z c.op_of.result c.size_of.result c.op_of.ensures c.size_of.ensures ∙ ap gen_sp_reg_adjust_of e))
+    c.sp_by.ensures

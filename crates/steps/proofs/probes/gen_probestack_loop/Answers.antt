@@ -8,7 +8,7 @@ use Rattle.steps.proofs.probes.gen_probestack_loop.Goals as goal
 
 pub returns : goal.returns
 returns c =
-    then_code c.args.list.now c.load-constant.new.list c.stack-probe-loop.new.list (load_constant_of spilltmp 0)
-    (load_constant_of tmp2 c.args.frame-size ++ stack_probe_loop_of (imm12_of c.args.guard-size)) c.load-constant.ensures
-    (then_code c.load-constant.new.list c.load-constant-2.new.list c.stack-probe-loop.new.list (load_constant_of tmp2 c.args.frame-size) (stack_probe_loop_of (imm12_of c.args.guard-size))
-    c.load-constant-2.ensures c.stack-probe-loop.ensures)
+    then_code c.args.list.now c.load_constant.new.list c.stack_probe_loop.new.list (load_constant_of spilltmp 0)
+    (load_constant_of tmp2 c.args.frame_size ++ stack_probe_loop_of (imm12_of c.args.guard_size)) c.load_constant.ensures
+    (then_code c.load_constant.new.list c.load_constant-2.new.list c.stack_probe_loop.new.list (load_constant_of tmp2 c.args.frame_size) (stack_probe_loop_of (imm12_of c.args.guard_size))
+    c.load_constant-2.ensures c.stack_probe_loop.ensures)

@@ -11,7 +11,7 @@ use Rattle.steps.proofs.probes.stack_probe_loop.Goals as goal
 
 pub returns-in-Some : goal.returns-in-Some
 returns-in-Some c =
-    renamed c.args.list.now c.inst-in-Some-3.new.self (code (stack_probe_loop_of (Some c.in-Some.step))) (code (stack_probe_loop_of (imm12_of c.args.guard-size)))
+    renamed c.args.list.now c.inst-in-Some-3.new.self (code (stack_probe_loop_of (Some c.in-Some.step))) (code (stack_probe_loop_of (imm12_of c.args.guard_size)))
     (ap (λ o. code (stack_probe_loop_of o)) c.in-Some.ensures)
     (then c.args.list.now c.inst.new.self c.inst-in-Some-3.new.self (Item.Inst (step_down c.in-Some.step) ∷ []) (Item.Inst probe_below ∷ Item.Inst compare_end ∷ Item.Inst (BGt (negsuc 2)) ∷ [])
     c.inst.ensures
@@ -20,6 +20,6 @@ returns-in-Some c =
     (then c.inst-in-Some.new.self c.inst-in-Some-2.new.self c.inst-in-Some-3.new.self (Item.Inst compare_end ∷ []) (Item.Inst (BGt (negsuc 2)) ∷ [])
     c.inst-in-Some-2.ensures c.inst-in-Some-3.ensures)))
 
-pub returns-in-default : goal.returns-in-default
-returns-in-default c =
-    nothing c.args.list.now (code (stack_probe_loop_of (imm12_of c.args.guard-size))) (ap (λ o. code (stack_probe_loop_of o)) c.in-default.ensures)
+pub returns-in_default : goal.returns-in_default
+returns-in_default c =
+    nothing c.args.list.now (code (stack_probe_loop_of (imm12_of c.args.guard_size))) (ap (λ o. code (stack_probe_loop_of o)) c.in_default.ensures)

@@ -4,4 +4,4 @@ use Rattle.plainbook.proofs.Reading.{read_right}
 use Rattle.book.proofs.book.Book.note_at.Goals as goal
 
 pub returns : goal.returns
-returns g c = λ k fs s. read_right _ _ c.args.i c.note-at.result c.note-at.ensures (ap (λ (h : Held). h.notes) s.means)
+returns g c = λ k fs s. read_right _ _ c.args.i c.note_at.result c.note_at.ensures (ap (λ (h : Held). h.notes) s.means)

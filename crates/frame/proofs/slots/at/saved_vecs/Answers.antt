@@ -5,17 +5,17 @@ use Rattle.frame.proofs.slots.at.saved_vecs.Goals as goal
 
 pub slice-bounds-result-count : goal.slice-bounds-result-count
 slice-bounds-result-count c =
-    ints_within (plain c.args.layout.now.sheet) c.as-slice-codes.result.now c.args.layout.now.int_saves
-    (c.as-slice-codes.ensures ∙ c.args.layout.now.saves_rule) c.args.layout.now.ints_rule
+    ints_within (plain c.args.layout.now.sheet) c.as_slice-codes.result.now c.args.layout.now.int_saves
+    (c.as_slice-codes.ensures ∙ c.args.layout.now.saves_rule) c.args.layout.now.ints_rule
 
 pub slice-bounds-result-start : goal.slice-bounds-result-start
 slice-bounds-result-start c =
-    let h : c.args.layout.now.int_saves ≤ length c.as-slice-codes.result.now =
-    ints_within (plain c.args.layout.now.sheet) c.as-slice-codes.result.now c.args.layout.now.int_saves
-    (c.as-slice-codes.ensures ∙ c.args.layout.now.saves_rule) c.args.layout.now.ints_rule in
+    let h : c.args.layout.now.int_saves ≤ length c.as_slice-codes.result.now =
+    ints_within (plain c.args.layout.now.sheet) c.as_slice-codes.result.now c.args.layout.now.int_saves
+    (c.as_slice-codes.ensures ∙ c.args.layout.now.saves_rule) c.args.layout.now.ints_rule in
     search rules
 
 pub returns : goal.returns
 returns c =
-    vecs_part (plain c.args.layout.now.sheet) c.as-slice-codes.result.now c.args.layout.now.int_saves
-    (c.as-slice-codes.ensures ∙ c.args.layout.now.saves_rule) c.args.layout.now.ints_rule
+    vecs_part (plain c.args.layout.now.sheet) c.as_slice-codes.result.now c.args.layout.now.int_saves
+    (c.as_slice-codes.ensures ∙ c.args.layout.now.saves_rule) c.args.layout.now.ints_rule

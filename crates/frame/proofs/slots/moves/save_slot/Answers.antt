@@ -8,7 +8,7 @@ use Rattle.frame.proofs.slots.moves.save_slot.Goals as goal
 
 pub returns : goal.returns
 returns c =
-    then c.args.list.now c.inst.new.self c.note-slot.new.list (Item.Inst (push (as_slot c.args.slot)) ∷ [])
-    (slot_notes (plain c.args.layout.now.sheet) (as_slot c.args.slot) c.args.clobber-offset)
-    (same_inst c.args.list.now c.inst.new.self c.push-of.result (push (as_slot c.args.slot)) c.push-of.ensures c.inst.ensures)
-    c.note-slot.ensures
+    then c.args.list.now c.inst.new.self c.note_slot.new.list (Item.Inst (push (as_slot c.args.slot)) ∷ [])
+    (slot_notes (plain c.args.layout.now.sheet) (as_slot c.args.slot) c.args.clobber_offset)
+    (same_inst c.args.list.now c.inst.new.self c.push_of.result (push (as_slot c.args.slot)) c.push_of.ensures c.inst.ensures)
+    c.note_slot.ensures

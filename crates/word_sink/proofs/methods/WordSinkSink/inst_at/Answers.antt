@@ -14,4 +14,4 @@ returns-then-i-self c =
 pub returns-else-i-self : goal.returns-else-i-self
 returns-else-i-self c =
     let l : c.args.self.now.insts ≤ length (vec_items c.args.self.now.words) = search rules in
-    (omega (arith, length_insts (vec_items c.args.self.now.words) c.args.self.now.insts l), c.not-held.ensures)
+    (omega (arith, length_insts (vec_items c.args.self.now.words) c.args.self.now.insts l), c.not_held.ensures)

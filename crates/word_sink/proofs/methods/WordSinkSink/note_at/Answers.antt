@@ -10,8 +10,8 @@ returns-then-i-self c =
     let y : c.index-a.result.now ≡ get_or (vec_items c.args.self.now.words) (note_base c.args.self.now.top c.args.i + 1) 0 = search (rules, get_or_read) in
     let z : c.index-b.result.now ≡ get_or (vec_items c.args.self.now.words) (note_base c.args.self.now.top c.args.i + 2) 0 = search (rules, get_or_read) in (
       omega (arith, length_notes c.args.self.now.top (vec_items c.args.self.now.words) c.args.self.now.notes),
-      note_words c.args.self.now.top (vec_items c.args.self.now.words) c.args.self.now.notes c.args.i _ _ _ _ c.if-i-self.true x y z c.note-from.ensures,
+      note_words c.args.self.now.top (vec_items c.args.self.now.words) c.args.self.now.notes c.args.i _ _ _ _ c.if-i-self.true x y z c.note_from.ensures,
     )
 
 pub returns-else-i-self : goal.returns-else-i-self
-returns-else-i-self c = (omega (arith, length_notes c.args.self.now.top (vec_items c.args.self.now.words) c.args.self.now.notes), c.not-held.ensures)
+returns-else-i-self c = (omega (arith, length_notes c.args.self.now.top (vec_items c.args.self.now.words) c.args.self.now.notes), c.not_held.ensures)

@@ -8,19 +8,19 @@ use Rattle.word_sink.proofs.methods.WordSinkSink.rewind.Goals as goal
 pub returns-then-i-self : goal.returns-then-i-self
 returns-then-i-self c =
     let l = late_insts c.args.self.now.top (vec_items c.args.self.now.words) c.args.self.now.insts c.args.self.now.notes c.args.i c.args.n (search rules) (omega arith) in
-    record { answer = (late_place _ _ _ l c.not-held.ensures, search rules, told_beyond _ _ c.not-held.ensures); cells = search rules }
+    record { answer = (late_place _ _ _ l c.not_held.ensures, search rules, told_beyond _ _ c.not_held.ensures); cells = search rules }
 
 pub returns-then-n-self : goal.returns-then-n-self
 returns-then-n-self c =
     let l = late_notes c.args.self.now.top (vec_items c.args.self.now.words) c.args.self.now.insts c.args.self.now.notes c.args.i c.args.n (search rules) (omega arith) (omega arith) in
-    record { answer = (late_place _ _ _ l c.not-held-then-n-self.ensures, search rules, told_beyond _ _ c.not-held-then-n-self.ensures); cells = search rules }
+    record { answer = (late_place _ _ _ l c.not_held-then-n-self.ensures, search rules, told_beyond _ _ c.not_held-then-n-self.ensures); cells = search rules }
 
 pub returns-in-Some : goal.returns-in-Some
 returns-in-Some c =
     let s = late_stray c.args.self.now.top (vec_items c.args.self.now.words) c.args.self.now.insts c.args.self.now.notes c.args.i c.args.n (search rules) (omega arith) (omega arith) in
     let e = c.in-Some.ensures in
     let l : late (word_held c.args.self.now) c.args.i c.args.n ≡ Some c.in-Some.k = cc in
-    record { answer = (late_place _ _ _ l c.not-held-in-Some.ensures, search rules, told_beyond _ _ c.not-held-in-Some.ensures); cells = search rules }
+    record { answer = (late_place _ _ _ l c.not_held-in-Some.ensures, search rules, told_beyond _ _ c.not_held-in-Some.ensures); cells = search rules }
 
 pub returns : goal.returns
 returns c =

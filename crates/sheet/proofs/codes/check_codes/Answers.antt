@@ -5,8 +5,8 @@ use Rattle.codes.specs.Items.{items}
 use Rattle.sheet.proofs.CodeSteps.{allowed_coded, kept_bad, kept_twice, kept_fits, kept_more, kept_all}
 use Rattle.sheet.proofs.codes.check_codes.Goals as goal
 
-pub returns-then-not-is-allowed : goal.returns-then-not-is-allowed
-returns-then-not-is-allowed c = (kept_bad _ _ _ _ _ c.loop-i.invariant.0 (omega arith) refl (search rules), tt)
+pub returns-then-not-is_allowed : goal.returns-then-not-is_allowed
+returns-then-not-is_allowed c = (kept_bad _ _ _ _ _ c.loop-i.invariant.0 (omega arith) refl (search rules), tt)
 
 pub returns-then-has : goal.returns-then-has
 returns-then-has c = (kept_twice _ _ _ _ _ c.loop-i.invariant.0 (omega arith) refl (search rules) (search rules), tt)

@@ -11,9 +11,9 @@ loop-i-init c = from_start (listed c.args.list.now) c.args.guard_size c.args.pro
 pub loop-i-preserved : goal.loop-i-preserved
 loop-i-preserved c =
     probe_put c.loop-i.list c.sp_by.new.list c.inst.new.self (joined (listed c.args.list.now) (code (probe_each c.args.guard_size c.args.probe_count)))
-    c.args.guard_size c.args.probe_count c.loop-i.-i c.loop-i-test.true c.loop-i.invariant c.sp_by.ensures c.inst.ensures
+    c.args.guard_size c.args.probe_count c.loop-i._i c.loop-i-test.true c.loop-i.invariant c.sp_by.ensures c.inst.ensures
 
 pub returns : goal.returns
 returns c =
-    probes_done c.args.list.now c.loop-i.list c.sp_by-2.new.list c.args.guard_size c.args.probe_count c.loop-i.-i
+    probes_done c.args.list.now c.loop-i.list c.sp_by-2.new.list c.args.guard_size c.args.probe_count c.loop-i._i
     c.loop-i-test.false c.loop-i.invariant c.sp_by-2.ensures

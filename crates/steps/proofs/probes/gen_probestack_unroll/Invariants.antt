@@ -6,4 +6,4 @@ use Rattle.steps.proofs.probes.gen_probestack_unroll.Given as goal
 
 abbrev pub invariant-loop-i : goal.invariant-loop-i
 invariant-loop-i l =
-    joined (listed l.list) (code (probe_each l.guard_size (l.probe_count - l.-i))) ≡ joined (listed l.initial.list) (code (probe_each l.guard_size l.probe_count))
+    joined (listed l.list) (code (probe_each l.guard_size (l.probe_count - l._i))) ≡ joined (listed l.initial.list) (code (probe_each l.guard_size l.probe_count))

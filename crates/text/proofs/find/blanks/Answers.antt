@@ -7,10 +7,10 @@ pub loop-i-preserved : goal.loop-i-preserved
 loop-i-preserved c =
     goes_on blank c.args.s.now c.loop-i.i c.loop-i.invariant c.loop-i-test.true (sym c.if-not-is_blank.ensures)
 
-pub returns-then-not-is-blank : goal.returns-then-not-is-blank
-returns-then-not-is-blank c =
+pub returns-then-not-is_blank : goal.returns-then-not-is_blank
+returns-then-not-is_blank c =
     record {
-      place = stops blank c.args.s.now c.loop-i.i c.loop-i.invariant c.loop-i-test.true (sym c.if-not-is-blank.ensures);
+      place = stops blank c.args.s.now c.loop-i.i c.loop-i.invariant c.loop-i-test.true (sym c.if-not-is_blank.ensures);
       within = search rules;
     }
 

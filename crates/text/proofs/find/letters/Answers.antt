@@ -8,10 +8,10 @@ pub loop-i-preserved : goal.loop-i-preserved
 loop-i-preserved c =
     goes_on (λ x. not (blank x)) c.args.s.now c.loop-i.i c.loop-i.invariant c.loop-i-test.true (not_from_false _ (sym c.if-is_blank.ensures))
 
-pub returns-then-is-blank : goal.returns-then-is-blank
-returns-then-is-blank c =
+pub returns-then-is_blank : goal.returns-then-is_blank
+returns-then-is_blank c =
     record {
-      place = stops (λ x. not (blank x)) c.args.s.now c.loop-i.i c.loop-i.invariant c.loop-i-test.true (not_from_true _ (sym c.if-is-blank.ensures));
+      place = stops (λ x. not (blank x)) c.args.s.now c.loop-i.i c.loop-i.invariant c.loop-i-test.true (not_from_true _ (sym c.if-is_blank.ensures));
       within = search rules;
     }
 

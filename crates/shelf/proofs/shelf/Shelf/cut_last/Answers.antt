@@ -14,7 +14,7 @@ invariant-of-self c = (
     (
       search rules,
       (
-        keys_cut (vec_items c.args.self.now.keys) _ (vec_items c.args.self.now.entries) _ _ c.args.self.now.indexed (search rules) c.truncate.ensures.items c.cut-key.ensures.items,
+        keys_cut (vec_items c.args.self.now.keys) _ (vec_items c.args.self.now.entries) _ _ c.args.self.now.indexed (search rules) c.truncate.ensures.items c.cut_key.ensures.items,
         tt,
       ),
     ),

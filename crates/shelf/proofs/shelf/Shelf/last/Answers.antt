@@ -9,4 +9,4 @@ returns-then-n-eq0 c = sym (last_none (vec_items c.args.self.now.entries) (searc
 pub returns : goal.returns
 returns c =
     let e : c.len-n.result - 1 ≡ length (vec_items c.args.self.now.entries) - 1 = search rules in
-    c.entry-at.ensures ∙ ap (item_at (vec_items c.args.self.now.entries)) e
+    c.entry_at.ensures ∙ ap (item_at (vec_items c.args.self.now.entries)) e

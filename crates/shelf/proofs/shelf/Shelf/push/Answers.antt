@@ -2,8 +2,8 @@ use Rattle.std.proofs.Common.{vec_items, arith, rules}
 use Rattle.shelf.proofs.Keys.{keys_many, keys_push}
 use Rattle.shelf.proofs.shelf.Shelf.push.Goals as goal
 
-pub insert-key-requires : goal.insert-key-requires
-insert-key-requires c =
+pub insert_key-requires : goal.insert_key-requires
+insert_key-requires c =
     let m = keys_many (vec_items c.args.self.now.keys) (vec_items c.args.self.now.entries) c.args.self.now.indexed in
     search rules
 
@@ -15,7 +15,7 @@ invariant-of-self c = (
     (
       search rules,
       (
-        keys_push (vec_items c.args.self.now.keys) _ (vec_items c.args.self.now.entries) _ _ _ c.args.self.now.indexed (search rules) c.push-reserved.ensures.items c.insert-key.ensures.items,
+        keys_push (vec_items c.args.self.now.keys) _ (vec_items c.args.self.now.entries) _ _ _ c.args.self.now.indexed (search rules) c.push_reserved.ensures.items c.insert_key.ensures.items,
         tt,
       ),
     ),

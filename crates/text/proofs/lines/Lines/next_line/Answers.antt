@@ -3,10 +3,10 @@ use Rattle.text.proofs.Cutting.{front, gone, kept, lost}
 use Rattle.text.proofs.lines.Lines.next_line.Goals as goal
 use Rattle.text.specs.Cuts.{up_to}
 
-pub returns-then-is-empty : goal.returns-then-is-empty
-returns-then-is-empty c =
+pub returns-then-is_empty : goal.returns-then-is_empty
+returns-then-is_empty c =
     let s = c.args.self.now.rest.now in
-    let none = c.if-is-empty.ensures in
+    let none = c.if-is_empty.ensures in
     record { line = lost s (take (up_to 10 s) s) none; rest = gone s (up_to 10 s + 1) none }
 
 pub returns : goal.returns

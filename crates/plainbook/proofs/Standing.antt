@@ -1,7 +1,7 @@
 -- From one standing to the next.
-use Rattle.std.proofs.Common.{◌≡◌, ℕ, suc, ◌+◌, ◌-◌, ◌<◌, ◌≤◌, List, [], ◌∷◌, ◌++◌, map, length, get_or, take, Some, None, Ok, Err, Option, Result, sym, refl, ap, ◌∙◌, subst, append_assoc, append-nil, arith}
+use Rattle.std.proofs.Common.{◌≡◌, ℕ, suc, ◌+◌, ◌-◌, ◌≤◌, List, [], ◌∷◌, ◌++◌, map, length, get_or, take, Some, None, Ok, Err, Result, sym, refl, ap, ◌∙◌, subst, append_assoc, append-nil, arith}
 use Rattle.std.specs.List.{AllByRecursion as All}
-use Rattle.std.proofs.lemmas.List.{length-append, length-map, length_push, take_at, take-map, get_or_push, get_or-map}
+use Rattle.std.proofs.lemmas.List.{length-map, length_push, take_at, take-map, get_or_push, get_or-map}
 use Rattle.refusal.specs.Told.{Told}
 use Rattle.sheet.specs.Accepted.{Accepted}
 use Rattle.shelf.specs.Slots.{item_at, numbers_of}

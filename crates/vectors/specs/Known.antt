@@ -1,5 +1,5 @@
 -- Words that assemblers write for each form, with the instruction that each reads as, and words that read as `Other`.
-use Rattle.std.specs.Prelude.{◌≡◌, ℕ, true, false, List, [], ◌∷◌, pos, negsuc}
+use Rattle.std.specs.Prelude.{ℕ, true, false, List, [], ◌∷◌, pos, negsuc}
 use Rattle.std.specs.List.{AllByRecursion as All}
 use Rattle.a64.specs.Words.{Reads}
 use Rattle.a64.specs.declared.inst.Reg.{Reg}

@@ -1,6 +1,6 @@
 -- The claims of each held function.
 use Rattle.std.proofs.Common.{◌≡◌, ℕ, zero, suc, ◌+◌, List, [], ◌∷◌, ◌++◌, map, length, take, drop, Some, None, Option, sym, refl, ap, ◌∙◌, subst, append_assoc, append-nil, arith}
-use Rattle.std.specs.List.{AllByRecursion as All}
+use Rattle.std.specs.List.{AllByRecursion}
 use Rattle.std.proofs.lemmas.List.{take_at, drop_at}
 use Rattle.a64.specs.declared.inst.Inst.{Inst}
 use Rattle.item_list.specs.Items.{code}
@@ -60,7 +60,7 @@ code_text fs front rest f e =
     ∙ append_assoc (opens f.sheet) (map reading_of f.body ++ closes f.sheet) (insts_in (all_items rest))
     ∙ ap (λ (xs : List Inst). opens f.sheet ++ xs) (append_assoc (map reading_of f.body) (closes f.sheet) (insts_in (all_items rest))))
 
-accepted_at : (front rest : List Fun) (f : Fun) → All (λ (g : Fun). Accepted g.sheet) (front ++ f ∷ rest) → Accepted f.sheet
+accepted_at : (front rest : List Fun) (f : Fun) → AllByRecursion (λ (g : Fun). Accepted g.sheet) (front ++ f ∷ rest) → Accepted f.sheet
 accepted_at [] rest f a = a.0
 accepted_at (g ∷ front) rest f a = accepted_at front rest f a.1
 
@@ -71,7 +71,7 @@ stands_in p r h es fs f start from s w = record {
   behind = insts_in (all_items w.rest);
   place = sym w.place;
   text = ap (λ (t : Held). t.insts) s.means ∙ code_text fs w.front w.rest f w.split;
-  accepted = accepted_at w.front w.rest f (subst (All (λ (g : Fun). Accepted g.sheet)) w.split s.accepted);
+  accepted = accepted_at w.front w.rest f (subst (AllByRecursion (λ (g : Fun). Accepted g.sheet)) w.split s.accepted);
 }
 
 -- ---- (a) and (b)

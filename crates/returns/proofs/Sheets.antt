@@ -4,7 +4,7 @@ use Rattle.machine.specs.Machine.{State, Core, LawfulCore, at, returned, Comes}
 use Rattle.sheet.specs.Accepted.{Accepted}
 use Rattle.sheet.specs.Plain.{PlainSheet, same}
 use Rattle.sheet.specs.declared.types.CallConv.{CallConv}
-use Rattle.returns.specs.Premises.{clobbers_x, clobbers_v, need, given_back, Entry, Lawful, Leaves, All, last}
+use Rattle.returns.specs.Premises.{clobbers_x, clobbers_v, need, given_back, Entry, Lawful, Leaves, Throughout, last}
 use Rattle.returns.specs.Returns.{CameBack, opens, closes, standing, ReturnsFrom, Returns}
 use Rattle.returns.proofs.Frames as F
 use Rattle.returns.proofs.Owed as O
@@ -99,7 +99,7 @@ closes_ends k h e s t law ok en v l m =
     go : Ending k (frame_of h) e s t (F.epilogue (frame_of h)) t → Closes k h e t
     go z = (z.0, subst (λ is. Ends k is t (e.x 30) z.0) (sym (epilogue_insts h ok)) z.1, left h e s t z.0 ok m z.2)
 
-last_lawful : (h : PlainSheet) (s t : State) (body : List State) → Lawful h s t → All (Lawful h s) body → Lawful h s (last t body)
+last_lawful : (h : PlainSheet) (s t : State) (body : List State) → Lawful h s t → Throughout (Lawful h s) body → Lawful h s (last t body)
 last_lawful h s t [] l a = l
 last_lawful h s t (u ∷ us) l a = last_lawful h s u us a.0 a.1
 

@@ -70,9 +70,9 @@ pub record Leaves (h : PlainSheet) (a b : State) : Type 0 where
   pub hi : (r : ℕ) → keeps_hi h r ≡ true → clobbers_v h r ≡ false → b.hi r ≡ a.hi r
 
 -- Every state of a list.
-abbrev pub All : (State → Type 0) → List State → Type 0
-All P [] = Unit {0}
-All P (t ∷ ts) = P t × All P ts
+abbrev pub Throughout : (State → Type 0) → List State → Type 0
+Throughout P [] = Unit {0}
+Throughout P (t ∷ ts) = P t × Throughout P ts
 
 -- The last state of a list that begins with s.
 abbrev pub last : State → List State → State
@@ -81,5 +81,5 @@ last s (t ∷ ts) = last t ts
 
 -- A body from s on: each state is lawful, and the last has the kept registers outside the clobbers.
 pub record Body (h : PlainSheet) (s : State) (states : List State) : Type 0 where
-  pub lawful : All (Lawful h s) states
+  pub lawful : Throughout (Lawful h s) states
   pub leaves : Leaves h s (last s states)

@@ -11,9 +11,9 @@ import sys
 # Names that would fall together with a function, a field or another definition: what a function f answers is f_of.
 SAME = """pairClash singleClash addSubExt addSubImm addsShifted ldrReg loadX movWide pairPost pairPre storeW genClobberRestore genClobberSave genEpilogueFrameRestore
 genPrologueFrameSetup genReturn genInlineProbestack genSpRegAdjust loadConstant clobberSize authenticatedRet tailReload movFpSp popOne popPair pushOne pushPair needsPad
-resizeIncoming calleePopSize incomingArgsDiff probeSize selectApiKey stackSize savedInts savedVecs keyNumber instFrom noteFrom notesStart badGuard badSizes badTail
+resizeIncoming calleePopSize incomingArgsDiff probeSize selectApiKey stackSize savedInts savedVecs keyNumber instFrom noteFrom badGuard badSizes badTail
 winchSeal insertKey noRoom spBy stackProbeLoop genProbestackLoop genProbestackUnroll"""
-OTHERS = {"slotOf": "slot_for", "cores-lawful": "each_core_lawful", "entry-of": "entry_of_slot", "item-at": "item_at_is", "notes-hold": "each_notes_hold", "trees-return": "each_tree_returns"}
+OTHERS = {"All": "Throughout", "own-notes": "own_notes_are", "slotOf": "slot_for", "cores-lawful": "each_core_lawful", "entry-of": "entry_of_slot", "item-at": "item_at_is", "notes-hold": "each_notes_hold", "trees-return": "each_tree_returns"}
 
 TOKEN = re.compile(r"[A-Za-z_◌⟦][\w'’\-◌]*", re.U)
 DECL = re.compile(r"^(\s*)((?:abbrev |unfoldable |pub )*)([a-z][\w'\-]*)\s+:\s")
@@ -114,9 +114,14 @@ def main(argv):
             # only clauses and imports speak of definitions
             # port.py leaves the parameter of a bound's type to the hand: it is the sink S everywhere
             t = re.sub(r"(?<![\w.])(Inst|Note)Price-as-Price\.", r"S.\1Price.Price.", t)
+            if "/sink.rt" not in p and "/methods.rt" not in p:
+                # in a function over any sink the sink's meaning goes by its parameter
+                t = "".join(l if re.match(r"\s*(ghost )?use ", l) else re.sub(r"(?<![\w.])held (sink|self|b\.|\((?:sink|self))", r"S.held \1", l) for l in t.splitlines(keepends=True))
             new = re.sub(TOKEN, lambda m: snake(m.group(0)) if m.group(0) in mine and "-" not in m.group(0) else m.group(0), t)
         else:
             new = TOKEN.sub(one, t)
+        for a, b in (("Known-words", "KnownWords"), ("Set-up", "SetUp"), ("prologueOf", "prologue_of"), ("epilogueOf", "epilogue_of")):
+            new = re.sub(r"\b" + a + r"\b", b, new)
         out[p] = new
     for p, mine in where.items():
         by = {}

@@ -5,7 +5,7 @@ ghost use Rattle.plainbook.specs.Claims.{AllClaimed, Shown};
 ghost use Rattle.plainbook.specs.Plain.{fun, grown, meant, plain_add, plain_look_up, plain_withdraw, priced, read_at, why_not, withdrawn};
 ghost use Rattle.plainbook.specs.Refusals.{said};
 ghost use Rattle.plainbook.specs.Stands.{Moves, Stands, entry_of, fed, plain_entry};
-ghost use Rattle.frame.specs.Pieces.{epilogue as epilogueOf, prologue as prologueOf};
+ghost use Rattle.frame.specs.Pieces.{epilogue as epilogue_of, prologue as prologue_of};
 ghost use Rattle.refusal.specs.Told.{Answers};
 ghost use Rattle.sheet.specs.Checks.{plain};
 ghost use Rattle.sheet.specs.Plain.{plain_of};
@@ -100,8 +100,8 @@ impl<S: Sink> Book<S> {
         body: &[u32],
         epilogue: &[Item],
     ) -> Result<Entry, Refusal>
-        requires prologue_value { prologue.now ≡ prologueOf (plain sheet) }
-        requires epilogue_value { epilogue.now ≡ epilogueOf (plain sheet) }
+        requires prologue_value { prologue.now ≡ prologue_of (plain sheet) }
+        requires epilogue_value { epilogue.now ≡ epilogue_of (plain sheet) }
         ensures { Answers (why_not (priced S.InstPrice.Price.units S.NotePrice.Price.units) (S.held self.now.sink) (numbers_of (listed self.now.shelf)) (fun (plain sheet) body.now)) (λ e. plain_entry e ≡ entry_of (length (S.held self.now.sink).insts) (length (S.held self.now.sink).notes) (fun (plain sheet) body.now)) (Unit {0}) result }
     {
         if let Some(slot) = self.shelf.slot_of(sheet.number) {

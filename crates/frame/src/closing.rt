@@ -2,7 +2,7 @@
 ghost use Rattle.item_list.specs.Items.{code};
 ghost use Rattle.item_list.specs.Lists.{Puts};
 ghost use Rattle.frame.specs.Closes.{combined, frame_popped};
-ghost use Rattle.frame.specs.Pieces.{epilogue as epilogueOf, gen_clobber_restore_of, gen_epilogue_frame_restore_of, gen_return_of, restore_slots, authenticated_ret_of};
+ghost use Rattle.frame.specs.Pieces.{epilogue as epilogue_of, gen_clobber_restore_of, gen_epilogue_frame_restore_of, gen_return_of, restore_slots, authenticated_ret_of};
 ghost use Rattle.layout.specs.Slots.{slots_of};
 ghost use Rattle.sheet.specs.Checks.{plain};
 ghost use Rattle.std.specs.Prelude.{◌≡◌};
@@ -80,7 +80,7 @@ pub fn list_return(layout: &FrameLayout, list: &mut ItemList)
 }
 
 pub fn list_epilogue(layout: &FrameLayout, list: &mut ItemList)
-    ensures { Puts list.old list.new (epilogueOf (plain layout.now.sheet)) }
+    ensures { Puts list.old list.new (epilogue_of (plain layout.now.sheet)) }
 {
     clobber_restore(layout, list);
     epilogue_frame_restore(layout, list);

@@ -6,7 +6,7 @@ ghost use Rattle.frame.specs.Forms.{mov_fp_sp_of, push_pair_of, store_fp_lr};
 ghost use Rattle.item_list.specs.Items.{code};
 ghost use Rattle.item_list.specs.Lists.{Puts};
 ghost use Rattle.frame.specs.Opens.{allocates, defines, frame_pushed, grows, moved, needs_pad_of, padded, probes};
-ghost use Rattle.frame.specs.Pieces.{gen_clobber_save_of, gen_prologue_frame_setup_of, prologue as prologueOf, resize_incoming_of, save_slots, sealed, select_api_key_of, tail_reload_of};
+ghost use Rattle.frame.specs.Pieces.{gen_clobber_save_of, gen_prologue_frame_setup_of, prologue as prologue_of, resize_incoming_of, save_slots, sealed, select_api_key_of, tail_reload_of};
 ghost use Rattle.layout.specs.Slots.{slots_of};
 ghost use Rattle.sheet.specs.Checks.{plain};
 
@@ -218,7 +218,7 @@ fn probe_frame(layout: &FrameLayout, list: &mut ItemList)
 }
 
 pub fn list_prologue(layout: &FrameLayout, list: &mut ItemList)
-    ensures { Puts list.old list.new (prologueOf (plain layout.now.sheet)) }
+    ensures { Puts list.old list.new (prologue_of (plain layout.now.sheet)) }
 {
     prologue_frame_setup(layout, list);
     probe_frame(layout, list);

@@ -98,7 +98,7 @@ sealed_word k None e law h = omega arith
 sealed_word k (Some q) e law h = law.word q.key (modifier_of q.modifier e) (e.x 30) h
 
 -- SP lower by d, FP there, and the pair in memory at SP; other bytes only in the n below.
-pub record Set-up (d n : ℕ) (s t : State) : Type 0 where
+pub record SetUp (d n : ℕ) (s t : State) : Type 0 where
   pub sp : t.sp + d ≡ s.sp
   pub fp : t.x 29 ≡ t.sp
   pub x : (r : ℕ) → r < 31 → r ≢ 16 → r ≢ 17 → r ≢ 29 → t.x r ≡ s.x r
@@ -116,7 +116,7 @@ pair_lt : (r : ℕ) → InX pair r → r < 31
 pair_lt r (inl h) = omega arith
 pair_lt r (inr h) = omega arith
 
-pub setup_goes : (k : Core) (n : ℕ) (s : State) → Words s → Room s n → 16 ≤ n → (t : State) × Goes k (set_up true) s t × Set-up 16 n s t
+pub setup_goes : (k : Core) (n : ℕ) (s : State) → Words s → Room s n → 16 ≤ n → (t : State) × Goes k (set_up true) s t × SetUp 16 n s t
 setup_goes k n s w room h = (
   t,
   goes-++ k (push pair ∷ []) (mov_fp_sp_of ∷ []) s m t
@@ -224,8 +224,8 @@ again_step k s h al mp =
     ap (λ a. only (reach s 31 16 a) (next (with_mem (store2 a (s.x 29) (s.x 30) s.mem) s))) (plus_exact s.sp 0 (omega arith) ∙ omega arith)
     ∙ ap (λ g. only g (next (with_mem (store2 s.sp (s.x 29) (s.x 30) s.mem) s))) (reach_sp s 16 s.sp al (omega arith) mp)
 
-pub resize_goes : (k : Core) (grow n : ℕ) (s t : State) → grow < 2 ^ 32 → grow % 16 ≡ 0 → 16 + grow ≤ n → Words s → Room s n → Set-up 16 n s t
-    → (u : State) × Goes k (resize grow) t u × Set-up (16 + grow) n s u
+pub resize_goes : (k : Core) (grow n : ℕ) (s t : State) → grow < 2 ^ 32 → grow % 16 ≡ 0 → 16 + grow ≤ n → Words s → Room s n → SetUp 16 n s t
+    → (u : State) × Goes k (resize grow) t u × SetUp (16 + grow) n s u
 resize_goes k grow n s t g32 ga gn w room v = go (eqb grow 0) (eqb_tells grow 0)
   where
     a : At k (lower grow) (t.sp - grow) t
@@ -274,7 +274,7 @@ resize_goes k grow n s t g32 ga gn w room v = go (eqb grow 0) (eqb_tells grow 0)
     outside b (inl h) = two_outside p.sp _ _ p.mem b (inl (omega (arith, psp, msp, v.sp))) ∙ ap (λ f. f b) (r.2.mem ∙ a.4) ∙ v.outside b (inl h)
     outside b (inr h) = two_outside p.sp _ _ p.mem b (inr (omega (arith, psp, msp, v.sp))) ∙ ap (λ f. f b) (r.2.mem ∙ a.4) ∙ v.outside b (inr h)
 
-    done : Set-up (16 + grow) n s u
+    done : SetUp (16 + grow) n s u
     done =
         record {
           sp = omega (arith, psp, msp, v.sp);
@@ -291,7 +291,7 @@ resize_goes k grow n s t g32 ga gn w room v = go (eqb grow 0) (eqb_tells grow 0)
         }
 
     go : (b : Bool) → ((b ≡ true) × (grow ≡ 0)) ⊎ ((b ≡ false) × (grow ≡ 0 → ⊥))
-        → (z : State) × Goes k (cond b [] (lower grow ++ (reload grow ++ (store_fp_lr ∷ mov_fp_sp_of ∷ [])))) t z × Set-up (16 + grow) n s z
+        → (z : State) × Goes k (cond b [] (lower grow ++ (reload grow ++ (store_fp_lr ∷ mov_fp_sp_of ∷ [])))) t z × SetUp (16 + grow) n s z
     go true (inl h) = (
       t,
       goes_none k t,

@@ -13,7 +13,7 @@ use Rattle.returns.proofs.Line.{Goes, Ends, line_goes, goes-++, goes_none, goes_
 use Rattle.returns.proofs.Slots.{Holds, HoldsAll, Room, Lower, WordsAt, Pushed, pushes_save, Above, Back, Popped, pops_restore, all_agree, holds_agree, bytes_16}
 use Rattle.returns.proofs.Adjust.{Set, Kept, kept_refl, At, lower_at, raise_at, tf, ft}
 use Rattle.returns.proofs.Probe.{Probed, Space, Probing, probes_goes}
-use Rattle.returns.proofs.Pieces.{sealed, sealed_word, Set-up, landing_goes, setup_goes, resize_goes, returning_ends, FitsKey}
+use Rattle.returns.proofs.Pieces.{sealed, sealed_word, SetUp, landing_goes, setup_goes, resize_goes, returning_ends, FitsKey}
 
 -- ---- lists of slots
 
@@ -124,7 +124,7 @@ probing_goes k f s ok space = go (eqb f.guard 0) (eqb_tells f.guard 0) ok.guarde
     go false (inr h) (inl z) = absurd (h.1 z)
     go false (inr h) (inr g) = on g.0 g.1 g.2 g.3 g.4
 
-probe_set : (m n : ℕ) (s t u : State) → 16 + m ≤ n → n ≤ s.sp → Set-up 16 n s t → Probed m t u → Set-up 16 n s u
+probe_set : (m n : ℕ) (s t u : State) → 16 + m ≤ n → n ≤ s.sp → SetUp 16 n s t → Probed m t u → SetUp 16 n s u
 probe_set m n s t u h enough v p =
     record {
       sp = omega (arith, v.sp, p.sp);
@@ -199,7 +199,7 @@ based k f e law ok en q = (
           mapped = λ b h u. ap (λ g. g b) l.2.mapped ∙ en.mapped b (omega (arith, l.2.sp)) (omega (arith, l.2.sp));
         }
 
-    a : (t : State) × Goes k (set_up true) e1 t × Set-up 16 (need f) e1 t
+    a : (t : State) × Goes k (set_up true) e1 t × SetUp 16 (need f) e1 t
     a = setup_goes k (need f) e1 w1 room (omega (arith, n16))
 
     t : State
@@ -218,7 +218,7 @@ based k f e law ok en q = (
     u : State
     u = p.0
 
-    r : (z : State) × Goes k (resize f.grow) u z × Set-up (16 + f.grow) (need f) e1 z
+    r : (z : State) × Goes k (resize f.grow) u z × SetUp (16 + f.grow) (need f) e1 z
     r =
         resize_goes k f.grow (need f) e1 u (omega (arith, ok.sum)) ok.grow16 (omega (arith, n16)) w1 room
         (probe_set (probed f) (need f) e1 t u (omega (arith, n16)) room.enough a.2 p.2)

@@ -5,7 +5,7 @@ use Rattle.a64.specs.Words.{Reads}
 use Rattle.a64.specs.declared.inst.Inst.{Inst}
 use Rattle.a64.specs.declared.inst.Inst.TheVariants.{Other}
 use Rattle.decoder.specs.Reading.{reading}
-use Rattle.vectors.specs.Known.{Known, Known-words, named, others}
+use Rattle.vectors.specs.Known.{Known, KnownWords, named, others}
 use Rattle.decoder.proofs.Laws.{reads}
 
 reads_as : (w : ℕ) (i : Inst) → reading w ≡ i → Reads w i
@@ -25,5 +25,5 @@ all_others (w ∷ ws) e =
     let t : map reading ws ≡ map Other ws = cc in
     (reads_as w (Other w) h, all_others ws t)
 
-pub known_words : Known-words
+pub known_words : KnownWords
 known_words = (all_named named refl, all_others others refl)

@@ -99,5 +99,5 @@ others =
     ∷ 0xa8000841 ∷ 0xf8400041 ∷ 0xb8010c41 ∷ 0xf8707bfd ∷ 0xb8304bff ∷ 0xd65f0000 ∷ 0xd503241f ∷ 0x54ffffab ∷ 0x91800000 ∷ 0x92800000 ∷ 0x00000000 ∷ []
 
 -- Every one of them reads as is written here.
-abbrev pub Known-words : Type 0
-Known-words = AllByRecursion (λ k. Reads k.bits k.inst) named × AllByRecursion (λ w. Reads w (Other w)) others
+abbrev pub KnownWords : Type 0
+KnownWords = AllByRecursion (λ k. Reads k.bits k.inst) named × AllByRecursion (λ w. Reads w (Other w)) others

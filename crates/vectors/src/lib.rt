@@ -2,12 +2,12 @@
 #![tactic(auto)]
 
 ghost use Rattle.std.specs.Prelude.{◌≡◌, ◌+◌, length};
-ghost use Rattle.vectors.specs.Known.{Known-words, named, others};
+ghost use Rattle.vectors.specs.Known.{KnownWords, named, others};
 
 // How many words are known: each reads as `specs/Known.antt` has it, and so decodes and encodes.
 pub fn count() -> usize
     ensures count { result ≡ length named + length others }
-    ensures read { Known-words }
+    ensures read { KnownWords }
 {
     81
 }

@@ -14,4 +14,4 @@ frame_popped h = cond (sets_up h) (pop_pair_of PairClass.X 29 30 ∷ []) []
 
 -- Check and return in one instruction.
 abbrev pub combined : Modifier → Bool → Bool
-combined m isHint = with_sp m && not isHint
+combined m is_hint = with_sp m && not is_hint

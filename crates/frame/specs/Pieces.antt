@@ -133,8 +133,8 @@ gen_epilogue_frame_restore_of h =
 
 -- RETAA or RETAB where they exist and the modifier is SP; else the hint AUTI, and RET.
 abbrev pub authenticated_ret_of : ApiKey → Bool → List Inst
-authenticated_ret_of key isHint =
-    cond (with_sp key.modifier && not isHint) (RetAuth key.key ∷ []) (Auti key.key key.modifier ∷ Ret ∷ [])
+authenticated_ret_of key is_hint =
+    cond (with_sp key.modifier && not is_hint) (RetAuth key.key ∷ []) (Auti key.key key.modifier ∷ Ret ∷ [])
 
 -- The return under a key, or without one.
 abbrev pub return_by : PlainSheet → Option ApiKey → List Inst

@@ -1,9 +1,9 @@
 -- Both cores keep the law; and seals and checks by computing.
-use Rattle.std.proofs.Common.{◌≡◌, ℕ, ◌+◌, ◌*◌, ◌/◌, ◌%◌, ◌^◌, ◌<◌, Bool, true, cond, eqb, sym, refl, ap, ◌∙◌, arith}
+use Rattle.std.proofs.Common.{◌≡◌, ℕ, ◌+◌, ◌%◌, ◌^◌, ◌<◌, true, cond, eqb, sym, refl, ap, ◌∙◌, arith}
 use Rattle.std.proofs.lemmas.Bool.Decides.{nat_tests}
 use Rattle.a64.specs.declared.inst.Key.{Key}
 use Rattle.machine.specs.Machine.{LawfulCore}
-use Rattle.machine.specs.Cores.{plain, key_number_of, seal_of, check_of, sealing, CoresLawful}
+use Rattle.machine.specs.Cores.{plain, seal_of, check_of, sealing, CoresLawful}
 
 seal_low : (k : Key) (m a : ℕ) → a < 2 ^ 48 → seal_of k m a % 2 ^ 48 ≡ a
 seal_low k m a h = omega arith

@@ -9,10 +9,9 @@ use Rattle.a64.specs.declared.inst.Mode.{Mode}
 use Rattle.a64.specs.declared.inst.MoveWideOp.{MoveWideOp}
 use Rattle.a64.specs.declared.inst.Key.{Key}
 use Rattle.a64.specs.declared.inst.Modifier.{Modifier}
-use Rattle.a64.specs.declared.inst.Inst.{Inst}
 use Rattle.a64.specs.declared.inst.Inst.TheVariants.{AddSubImm, AddSubExt, AddsShifted, Pair, Single, LdrUImm, LdrReg, StrWReg, SturW, MovWide, Paci, Auti, BtiC, Ret, RetAuth, BGt, Other}
 use Rattle.machine.specs.Cores.{plain, sealing}
-use Rattle.machine.specs.Machine.{State, Core, Effect, next, branch, back, stop, put, load, store, all_mapped, plus, minus, step}
+use Rattle.machine.specs.Machine.{State, Effect, next, branch, back, stop, put, load, store, all_mapped, plus, minus, step}
 
 -- x0, x1, x2 and SP as given; from 4000 to 4999 memory is mapped, and holds its address mod 251
 base : ℕ → ℕ → ℕ → ℕ → State

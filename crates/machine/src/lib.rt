@@ -1,4 +1,4 @@
 // The machine that frames run on: its definitions are in specs, and here are the cores.
 #![tactic(auto)]
 
-pub mod core;
+pub mod cores;

@@ -1,20 +1,21 @@
 -- Constants in a register, and SP by any amount.
-use Rattle.std.proofs.Common.{◌≡◌, ℕ, zero, suc, ◌+◌, ◌-◌, ◌*◌, ◌/◌, ◌%◌, ◌^◌, ◌<◌, ◌≤◌, Bool, true, false, cond, not, ◌&&◌, ◌||◌, eqb, ltb, leb, ◌≢◌, ◌⊎◌, List, [], ◌∷◌, ◌++◌, Some, None, Option, sym, refl, ap, ◌∙◌, subst, ap₂, inl, inr, mod-lt, mod-eq_of_lt, arith, pow_pos, pow-add}
-use native.Mathlib.Nat.{div-eq_of_lt}
-use lib.Arith.{mod-mul}
-use Rattle.std.proofs.lemmas.Bool.Decides.{nat_tests, eqb_tells, leb_tells}
+use Rattle.std.proofs.Common.{◌≡◌, ℕ, zero, suc, ◌+◌, ◌-◌, ◌*◌, ◌/◌, ◌%◌, ◌^◌, ◌<◌, ◌≤◌, Bool, true, false, cond, ◌&&◌, eqb, ltb, ◌≢◌, ◌⊎◌, List, [], ◌∷◌, ◌++◌, Some, None, Option, sym, refl, ap, ◌∙◌, subst, ap₂, inl, inr, mod-lt, mod-eq_of_lt, arith, pow_pos, pow-add}
+use Rattle.std.proofs.Math.Nat.{div-eq_of_lt}
+use Rattle.std.proofs.Math.Arith.{mod-mul}
+use Rattle.std.proofs.lemmas.Bool.{false≢true, true≢false}
+use Rattle.std.proofs.lemmas.Bool.Decides.{nat_tests, eqb_tells}
 use Rattle.a64.specs.Operands.{imm12_of, imm12_value}
 use Rattle.a64.specs.declared.imm.Imm12.{Imm12}
 use Rattle.a64.specs.declared.inst.AddSub.{AddSub}
 use Rattle.a64.specs.declared.inst.MoveWideOp.{MoveWideOp}
 use Rattle.a64.specs.declared.inst.Inst.{Inst}
 use Rattle.a64.specs.declared.inst.Inst.TheVariants.{AddSubImm, AddSubExt}
-use Rattle.machine.specs.Machine.{State, Core, put, plus, minus, add_sub, move_wide, read_z, with_sp, write_z, Effect, next, step}
+use Rattle.machine.specs.Machine.{State, Core, add_sub, move_wide, read_z, with_sp, write_z, next, step}
 use Rattle.steps.specs.Forms.{reg, sp, spilltmp, movz, movk}
 use Rattle.steps.specs.Adjust.{part, keep_parts, load_parts, load_constant_of, sp_by_imm, sp_by_of}
 use Rattle.returns.proofs.Frames.{constant, lower, raise}
 use Rattle.returns.proofs.Mem.{put_same, put_other}
-use Rattle.returns.proofs.Line.{Line, line-++, line_one, Goes, line_goes, goes-++, goes_one, goes_none}
+use Rattle.returns.proofs.Line.{Line, line-++, line_one, Goes, line_goes, goes_one, goes_none}
 use Rattle.returns.proofs.Slots.{minus_exact, plus_exact, read_z_x}
 
 -- Only x d changed, to v.
@@ -44,10 +45,10 @@ set_after d u v s t p =
     }
 
 pub tf : true ≡ false → ⊥
-tf e = mathlib.Core.Bool.true≢false e
+tf e = true≢false e
 
 pub ft : false ≡ true → ⊥
-ft e = mathlib.Core.Bool.false≢true e
+ft e = false≢true e
 
 abbrev pub Const : Core → ℕ → ℕ → State → List Inst → Type 0
 Const k d n s is = (t : State) × Line k is s t × Set d n s t
@@ -175,8 +176,8 @@ value_or n (Some j) = imm12_value j
 value_or n None = n
 
 -- The immediate of a number, if it has one, is the number.
-pub imm12_value : (n : ℕ) (i : Imm12) → imm12_of n ≡ Some i → imm12_value i ≡ n
-imm12_value n i e = go (ltb n 4096) (eqb (n % 4096) 0 && ltb n (2 ^ 24)) refl e
+pub imm12_value_is : (n : ℕ) (i : Imm12) → imm12_of n ≡ Some i → imm12_value i ≡ n
+imm12_value_is n i e = go (ltb n 4096) (eqb (n % 4096) 0 && ltb n (2 ^ 24)) refl e
   where
     whole : eqb (n % 4096) 0 && ltb n (2 ^ 24) ≡ true → n / 4096 * 4096 ≡ n
     whole q = grind (arith, nat_tests)
@@ -212,7 +213,7 @@ by_at k op n v s h none sum = go (eqb n 0) (eqb_tells n 0) (imm12_of n) refl
     go : (a : Bool) → Told n a → (o : Option Imm12) → imm12_of n ≡ o → At k (cond a [] (sp_by_imm op n o)) v s
     go true (inl p) o e = (s, goes_none k s, none p.1, kept_refl s, refl)
     go true (inr p) o e = absurd (tf p.0)
-    go false p (Some i) e = near i (imm12_value n i e)
+    go false p (Some i) e = near i (imm12_value_is n i e)
     go false p None e = far
 
 pub lower_at : (k : Core) (n : ℕ) (s : State) → n < 2 ^ 32 → n ≤ s.sp → s.sp < 2 ^ 64 → At k (lower n) (s.sp - n) s

@@ -1,7 +1,7 @@
 -- Each saved register has exactly one note.
-use Rattle.std.proofs.Common.{◌≡◌, ℕ, zero, suc, ◌+◌, ◌-◌, ◌*◌, ◌/◌, ◌%◌, ◌^◌, ◌<◌, ◌≤◌, Bool, true, false, cond, not, ◌&&◌, ◌||◌, eqb, ltb, leb, ◌≢◌, ◌⊎◌, List, [], ◌∷◌, ◌++◌, Some, None, filter, Option, sym, refl, ap, ◌∙◌, subst, ap₂, inl, inr, arith}
+use Rattle.std.proofs.Common.{◌≡◌, ℕ, ◌+◌, ◌-◌, ◌<◌, ◌≤◌, Bool, true, false, cond, not, ◌&&◌, ◌||◌, eqb, ltb, leb, ◌≢◌, ◌⊎◌, List, [], ◌∷◌, ◌++◌, Some, None, filter, Option, sym, refl, ap, ◌∙◌, ap₂, inl, inr, arith}
 use Rattle.std.proofs.lemmas.Bool.{eqb-true}
-use Rattle.std.proofs.lemmas.Bool.Decides.{nat_tests, eqb_tells, leb_tells}
+use Rattle.std.proofs.lemmas.Bool.Decides.{nat_tests, eqb_tells}
 use Rattle.a64.specs.declared.inst.AddSub.{AddSub}
 use Rattle.a64.specs.declared.inst.ApiKey.{ApiKey}
 use Rattle.a64.specs.declared.inst.Inst.{Inst}
@@ -21,9 +21,9 @@ use Rattle.item_list.specs.Items.{code}
 use Rattle.sink.specs.Items.{notes_from}
 use Rattle.frame.specs.Pieces.{push, noting, select_api_key_of, sealed, gen_prologue_frame_setup_of, incoming_args_diff_of, resize_incoming_of, slot_notes, save_slots, stack_size_of, gen_clobber_save_of, prologue}
 use Rattle.steps.specs.Adjust.{sp_by_of}
-use Rattle.returns.specs.Notes.{names, note_count, saved_whole, OneNoteEach}
+use Rattle.returns.specs.Notes.{names, note_count, OneNoteEach}
 use Rattle.returns.proofs.Adjust.{tf, ft}
-use Rattle.returns.proofs.Laid.{In, kept_of, ints_lt, ints_has}
+use Rattle.returns.proofs.Laid.{In, kept_of, ints_lt}
 use Rattle.returns.proofs.Notes.{seal_pads, bare_pads, auth_items, seal_items, mov_items, push_items, probe_insts, move_insts, frame_items, alloc_items, last_items, grow_items}
 
 -- how many notes among items name the register c
@@ -145,9 +145,9 @@ count_slots c h (σ ∷ R) o n =
     let d = count_slot c h σ o n in
     omega arith
 
-inSlots-++ : (c : ℕ) (R S : List Slot) → in_slots c (R ++ S) ≡ in_slots c R + in_slots c S
-inSlots-++ c [] S = omega arith
-inSlots-++ c (σ ∷ R) S = let h = inSlots-++ c R S in omega arith
+in_slots-++ : (c : ℕ) (R S : List Slot) → in_slots c (R ++ S) ≡ in_slots c R + in_slots c S
+in_slots-++ c [] S = omega arith
+in_slots-++ c (σ ∷ R) S = let h = in_slots-++ c R S in omega arith
 
 -- how often a number stands in a list; how often a vector's code does
 abbrev often : ℕ → List ℕ → ℕ
@@ -285,8 +285,8 @@ unfolding slots_of
 slots_once c h = go (same h.conv PreserveAll)
   where
     go : (b : Bool) → in_slots c (cond b (each_q (saved_vecs_of h)) (twos_d (saved_vecs_of h)) ++ twos_x (saved_ints_of h)) ≡ cond b 0 (often_v c (saved_vecs_of h)) + often c (saved_ints_of h)
-    go true = inSlots-++ c (each_q (saved_vecs_of h)) (twos_x (saved_ints_of h)) ∙ ap₂ (λ y z. y + z) (each_q_often c (saved_vecs_of h)) (twos_x_often c (saved_ints_of h))
-    go false = inSlots-++ c (twos_d (saved_vecs_of h)) (twos_x (saved_ints_of h)) ∙ ap₂ (λ y z. y + z) (twos_d_often c (saved_vecs_of h)) (twos_x_often c (saved_ints_of h))
+    go true = in_slots-++ c (each_q (saved_vecs_of h)) (twos_x (saved_ints_of h)) ∙ ap₂ (λ y z. y + z) (each_q_often c (saved_vecs_of h)) (twos_x_often c (saved_ints_of h))
+    go false = in_slots-++ c (twos_d (saved_vecs_of h)) (twos_x (saved_ints_of h)) ∙ ap₂ (λ y z. y + z) (twos_d_often c (saved_vecs_of h)) (twos_x_often c (saved_ints_of h))
 
 pub one_note_each : OneNoteEach
 one_note_each h n c ok u =

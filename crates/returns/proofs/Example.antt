@@ -1,5 +1,5 @@
 -- The tree of three functions, computed; and each of its steps keeps the rules.
-use Rattle.std.proofs.Common.{◌≡◌, ℕ, ◌+◌, ◌-◌, ◌*◌, ◌^◌, ◌<◌, ◌≤◌, Bool, true, false, cond, ◌||◌, eqb, ltb, ◌≢◌, ◌⊎◌, List, [], ◌∷◌, ◌++◌, length, sym, refl, ap, ◌∙◌, subst, inl, inr, append_assoc, append-nil, arith}
+use Rattle.std.proofs.Common.{◌≡◌, ℕ, ◌+◌, ◌-◌, ◌^◌, ◌<◌, ◌≤◌, Bool, true, false, cond, ◌||◌, eqb, ltb, ◌≢◌, ◌⊎◌, List, [], ◌∷◌, ◌++◌, length, sym, refl, ap, ◌∙◌, inl, inr, append_assoc, append-nil, arith}
 use Rattle.std.proofs.lemmas.Bool.Decides.{nat_tests, eqb_tells}
 use Rattle.a64.specs.declared.inst.Inst.{Inst}
 use Rattle.frame.specs.Pieces.{tail_reload_of, stack_size_of, prologue, epilogue}
@@ -7,14 +7,14 @@ use Rattle.steps.specs.Adjust.{load_constant_of, sp_by_of}
 use Rattle.steps.specs.Probes.{gen_inline_probestack_of}
 use Rattle.layout.specs.Slots.{slots_of}
 use Rattle.machine.specs.Cores.{sealing}
-use Rattle.machine.specs.Machine.{State, Point, at, returned, stopped, Comes, put, load, store, all_mapped, plus, minus, step, fetch, move, run}
+use Rattle.machine.specs.Machine.{Point, at, returned, stopped, Comes, put, load, store, all_mapped, plus, minus, step, fetch, move, run}
 use Rattle.sheet.proofs.AcceptedSheets.{accepted}
 use Rattle.sheet.proofs.Walks.{below_all}
 use Rattle.sheet.specs.Accepted.{Accepted}
 use Rattle.sheet.specs.Saved.{clobber_size_of, setup_size}
 use Rattle.sheet.specs.Walk.{ints}
-use Rattle.returns.specs.Premises.{Words, Entry, Lawful, Leaves, need}
-use Rattle.returns.specs.Trees.{Fun, body_at, Stands, Own, Calls}
+use Rattle.returns.specs.Premises.{Entry, Lawful, Leaves, need}
+use Rattle.returns.specs.Trees.{body_at, Stands, Own, Calls}
 use Rattle.returns.specs.Example.{root_sheet, mid_sheet, leaf_sheet, root, mid, leaf, text, start, root_open, root_body, mid_entry, mid_open, mid_body, leaf_entry, leaf_open, leaf_body, leaf_back, mid_back, root_back, low, high, ThreeDeep, RulesKept}
 use Rattle.returns.specs.Returns.{opens, closes}
 use Rattle.returns.proofs.Adjust.{tf}
@@ -91,9 +91,9 @@ put_word k v f h g r = go (eqb r k)
     go true = h
     go false = g r
 
-root_entry : Entry sealing root_sheet start
+root_enters : Entry sealing root_sheet start
 unfolding root_sheet start slots_of ints
-root_entry =
+root_enters =
     record {
       words = record { x = λ r l. omega arith; lo = λ r l. omega arith; hi = λ r l. omega arith };
       aligned = refl;
@@ -104,9 +104,9 @@ root_entry =
       returns = λ q. refl;
     }
 
-mid_entry : Entry sealing mid_sheet mid_entry
+mid_enters : Entry sealing mid_sheet mid_entry
 unfolding load_constant_of sp_by_of gen_inline_probestack_of tail_reload_of prologue epilogue slots_of put load store all_mapped plus minus step fetch move run ints root_sheet mid_sheet root text start root_open root_body mid_entry
-mid_entry =
+mid_enters =
     record {
       words =
           record {
@@ -122,9 +122,9 @@ mid_entry =
       returns = λ q. refl;
     }
 
-leaf_entry : Entry sealing leaf_sheet leaf_entry
+leaf_enters : Entry sealing leaf_sheet leaf_entry
 unfolding load_constant_of sp_by_of gen_inline_probestack_of tail_reload_of prologue epilogue slots_of put load store all_mapped plus minus step fetch move run ints root_sheet mid_sheet leaf_sheet root mid text start root_open root_body mid_entry mid_open mid_body leaf_entry
-leaf_entry =
+leaf_enters =
     record {
       words =
           record {
@@ -280,7 +280,7 @@ mid_call =
       stands = mid_stands;
       regular = refl;
       fits = omega arith;
-      entry = mid_entry;
+      entry = mid_enters;
       stretch = mid_deep numbers;
       x = λ r n. put_other 30 5000 root_body.x r n;
       sp = refl;
@@ -300,7 +300,7 @@ leaf_call =
       stands = leaf_stands;
       regular = refl;
       fits = omega arith;
-      entry = leaf_entry;
+      entry = leaf_enters;
       stretch = leaf_deep numbers;
       x = λ r n. put_other 30 6000 mid_body.x r n;
       sp = refl;
@@ -317,7 +317,7 @@ pub rules_kept : RulesKept
 rules_kept =
     record {
       root_stands = root_stands;
-      root_entry = root_entry;
+      root_entry = root_enters;
       root_opens = root_opens;
       root_step = root_step;
       mid_call = mid_call;

@@ -6,7 +6,7 @@ use Rattle.sheet.specs.Codes.{has, within}
 use Rattle.sheet.specs.Plain.{PlainSheet, same}
 use Rattle.sheet.specs.Saved.{pairing, callee_saved, partner, saves}
 use Rattle.sheet.specs.declared.types.CallConv.TheVariants.{PreserveAll}
-use Rattle.returns.specs.Premises.{keeps_x, keeps_lo, keeps_hi}
+use Rattle.returns.specs.Premises.{keeps_x, keeps_lo}
 use Rattle.returns.specs.Returns.{SavedKept}
 use Rattle.returns.proofs.Adjust.{tf, ft}
 

@@ -1,27 +1,25 @@
 -- What the layout of an accepted sheet gives: a sound frame, and every kept register that is clobbered in a slot.
-use Rattle.std.proofs.Common.{◌≡◌, ℕ, zero, suc, ◌+◌, ◌-◌, ◌*◌, ◌/◌, ◌%◌, ◌^◌, ◌<◌, ◌≤◌, Bool, true, false, cond, not, ◌&&◌, ◌||◌, eqb, ltb, leb, ◌≢◌, ◌⊎◌, List, [], ◌∷◌, ◌++◌, length, Some, None, filter, Option, sym, refl, ap, ◌∙◌, subst, ap₂, inl, inr, arith, length-append}
-use Rattle.std.proofs.lemmas.Bool.Decides.{nat_tests, eqb_tells, leb_tells}
+use Rattle.std.proofs.Common.{◌≡◌, ℕ, ◌+◌, ◌*◌, ◌%◌, ◌^◌, ◌<◌, ◌≤◌, Bool, true, false, cond, ◌&&◌, ◌||◌, eqb, ltb, leb, ◌⊎◌, List, [], ◌∷◌, ◌++◌, length, Some, None, filter, Option, sym, refl, ap, ◌∙◌, inl, inr, arith}
+use Rattle.std.proofs.lemmas.Bool.Decides.{nat_tests, eqb_tells}
 use Rattle.a64.specs.declared.inst.ApiKey.{ApiKey}
 use Rattle.a64.specs.declared.inst.Key.{Key}
 use Rattle.a64.specs.declared.inst.Modifier.{Modifier}
-use Rattle.layout.specs.Slots.{Slot, pair_x, one_x, pair_d, one_d, one_q, twos_x, twos_d, each_q, slots_of}
+use Rattle.layout.specs.Slots.{Slot, twos_x, twos_d, each_q, slots_of}
 use Rattle.layout.proofs.Areas.{slots_size}
 use Rattle.sheet.proofs.Walks.{below_all, kept_few}
 use Rattle.sheet.specs.Accepted.{Accepted}
 use Rattle.sheet.specs.Codes.{has, within}
-use Rattle.sheet.specs.Key.{key_of}
 use Rattle.sheet.specs.Plain.{PlainSheet, same, alike}
-use Rattle.sheet.specs.Saved.{pairs, pairing, callee_saved, partner, saves, saved_ints_of, saved_vecs_of, clobber_size_of, sets_up, setup_size}
+use Rattle.sheet.specs.Saved.{pairing, callee_saved, partner, saves, saved_ints_of, saved_vecs_of, clobber_size_of, sets_up}
 use Rattle.sheet.specs.Walk.{ints, ups, downs}
-use Rattle.sheet.specs.declared.types.CallConv.{CallConv}
 use Rattle.sheet.specs.declared.types.CallConv.TheVariants.{Tail, Winch, PreserveAll}
 use Rattle.sheet.specs.declared.types.FunctionCalls.{FunctionCalls}
 use Rattle.frame.specs.Pieces.{with_sp, select_api_key_of, incoming_args_diff_of, stack_size_of, probe_size_of}
 use Rattle.returns.specs.Premises.{keeps_x, keeps_lo, keeps_hi, clobbers_x, clobbers_v, given_back}
 use Rattle.returns.proofs.Frames.{bytes, Frame}
-use Rattle.returns.proofs.Owed.{InX, InLo, InHi, Any, Wide, AllWide, Savable, Good, GoodAll, Sound, Guarded, Keyed}
+use Rattle.returns.proofs.Owed.{InX, InLo, InHi, Any, AllWide, Savable, GoodAll, Sound, Guarded, Keyed}
 use Rattle.returns.proofs.Adjust.{tf, ft}
-use Rattle.returns.proofs.Whole.{any_front, any_back, wide-++, bytes-++}
+use Rattle.returns.proofs.Whole.{any_front, any_back, wide-++}
 
 -- The frame that a sheet describes.
 abbrev pub frame_of : PlainSheet → Frame

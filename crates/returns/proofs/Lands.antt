@@ -1,16 +1,15 @@
 -- The first instruction is a landing pad.
-use Rattle.std.proofs.Common.{◌≡◌, Bool, true, false, cond, not, ◌&&◌, ◌⊎◌, List, [], ◌∷◌, ◌++◌, Some, None, Option, sym, refl, ap, ◌∙◌, subst, ap₂, inl, inr}
+use Rattle.std.proofs.Common.{◌≡◌, true, cond, not, ◌&&◌, List, [], ◌∷◌, ◌++◌, Some, None, Option, sym, refl, ap, ◌∙◌, subst, inl, inr}
 use Rattle.a64.specs.declared.inst.ApiKey.{ApiKey}
 use Rattle.a64.specs.declared.inst.Key.{Key}
 use Rattle.a64.specs.declared.inst.Modifier.{Modifier}
 use Rattle.a64.specs.declared.inst.Inst.{Inst}
 use Rattle.a64.specs.declared.inst.Inst.TheVariants.{Paci, BtiC}
 use Rattle.machine.specs.Machine.{LandingPad}
-use Rattle.sheet.specs.Plain.{PlainSheet}
 use Rattle.sink.specs.Items.{insts_in}
-use Rattle.frame.specs.Pieces.{with_sp, select_api_key_of, sealed, gen_prologue_frame_setup_of, prologue}
+use Rattle.frame.specs.Pieces.{with_sp, select_api_key_of, sealed, prologue}
 use Rattle.sink.specs.declared.item.Item.{Item}
-use Rattle.returns.specs.Returns.{opens, Lands}
+use Rattle.returns.specs.Returns.{Lands}
 use Rattle.returns.proofs.Frames.{landing}
 use Rattle.returns.proofs.Texts.{insts-++, sealed_insts}
 

@@ -1,5 +1,5 @@
 -- Straight-line code: a run that only goes on, with the states in between given, and never computed.
-use Rattle.std.proofs.Common.{◌≡◌, ℕ, zero, suc, ◌+◌, List, [], ◌∷◌, ◌++◌, length, sym, refl, ap, ◌∙◌, subst, append_assoc, add-suc, zero-add, arith, length-append}
+use Rattle.std.proofs.Common.{◌≡◌, ℕ, zero, suc, ◌+◌, List, [], ◌∷◌, ◌++◌, length, sym, refl, ap, ◌∙◌, subst, append_assoc, zero-add, arith, length-append}
 use Rattle.a64.specs.declared.inst.Inst.{Inst}
 use Rattle.machine.specs.Machine.{State, Core, Effect, step, next, back, Point, at, returned, fetch, after, move, run, Comes}
 

@@ -1,12 +1,12 @@
 -- The notes are right in every state of a lawful body.
-use Rattle.std.proofs.Common.{◌≡◌, ℕ, zero, suc, ◌+◌, ◌-◌, ◌*◌, ◌/◌, ◌%◌, ◌^◌, ◌<◌, ◌≤◌, Bool, true, false, cond, not, ◌&&◌, ◌||◌, eqb, ltb, leb, ◌≢◌, ◌⊎◌, List, [], ◌∷◌, ◌++◌, length, is_some, Some, None, Option, sym, refl, ap, ◌∙◌, subst, ap₂, inl, inr, arith}
+use Rattle.std.proofs.Common.{◌≡◌, ℕ, ◌+◌, ◌-◌, ◌<◌, Bool, true, false, cond, not, ◌&&◌, eqb, List, [], ◌∷◌, ◌++◌, length, is_some, Some, None, Option, sym, refl, ap, ◌∙◌, subst, arith}
 use Rattle.std.proofs.lemmas.Bool.Decides.{nat_tests}
 use Rattle.a64.specs.declared.inst.AddSub.{AddSub}
 use Rattle.a64.specs.declared.inst.ApiKey.{ApiKey}
 use Rattle.a64.specs.declared.inst.PairClass.{PairClass}
 use Rattle.a64.specs.declared.inst.Inst.{Inst}
 use Rattle.a64.specs.declared.inst.Inst.TheVariants.{Paci, BtiC}
-use Rattle.machine.specs.Machine.{State, Core, LawfulCore, Mem, load, at, Comes}
+use Rattle.machine.specs.Machine.{State, Core, Mem, load, at, Comes}
 use Rattle.layout.specs.Slots.{Slot, pair_x, one_x, pair_d, one_d, one_q, slots_of}
 use Rattle.sheet.specs.Accepted.{Accepted}
 use Rattle.sheet.specs.Plain.{PlainSheet, same}
@@ -21,10 +21,10 @@ use Rattle.sink.specs.Items.{notes_from}
 use Rattle.frame.specs.Pieces.{push, with_sp, tail_reload_of, noting, select_api_key_of, sealed, gen_prologue_frame_setup_of, incoming_args_diff_of, resize_incoming_of, slot_notes, save_slots, stack_size_of, gen_clobber_save_of, probe_size_of, prologue}
 use Rattle.steps.specs.Adjust.{sp_by_of}
 use Rattle.steps.specs.Probes.{gen_inline_probestack_of}
-use Rattle.returns.specs.Premises.{Entry, Lawful}
+use Rattle.returns.specs.Premises.{Lawful}
 use Rattle.returns.specs.Returns.{opens, closes, standing}
 use Rattle.returns.specs.Notes.{entry_value, pushed_link, Holds, downward_or, downward, EachNote, NotesHold}
-use Rattle.returns.proofs.Adjust.{tf, ft}
+use Rattle.returns.proofs.Adjust.{ft}
 use Rattle.returns.proofs.Frames as F
 use Rattle.returns.proofs.Owed as O
 use Rattle.returns.proofs.Slots as M
@@ -286,7 +286,7 @@ noted k h e s t down ok same-down v l =
 
     held : M.HoldsAll (values k (frame_of h) e) (F.saves (frame_of h)) (s.sp + stack_size_of h) t.mem
     held =
-        M.all-agree (values k (frame_of h) e) (F.saves (frame_of h)) (s.sp + stack_size_of h) s.mem t.mem (λ b p u. sym (low.bytes b p u)) v.saved
+        M.all_agree (values k (frame_of h) e) (F.saves (frame_of h)) (s.sp + stack_size_of h) s.mem t.mem (λ b p u. sym (low.bytes b p u)) v.saved
 
     fp : sets_up h ≡ true → t.x 29 ≡ s.sp + stack_size_of h + F.bytes (slots_of h)
     fp q = l.fp ∙ v.fp q

@@ -1,6 +1,5 @@
 -- What a sound frame owes, over its parts.
-use Rattle.std.proofs.Common.{◌≡◌, ℕ, zero, suc, ◌+◌, ◌-◌, ◌*◌, ◌/◌, ◌%◌, ◌^◌, ◌<◌, ◌≤◌, Bool, true, false, cond, not, ◌&&◌, ◌≢◌, ◌⊎◌, List, [], ◌∷◌, ◌++◌, Some, None, Option}
-use Rattle.a64.specs.declared.inst.Inst.{Inst}
+use Rattle.std.proofs.Common.{◌≡◌, ℕ, zero, suc, ◌+◌, ◌%◌, ◌^◌, ◌<◌, ◌≤◌, true, false, cond, ◌≢◌, ◌⊎◌, List, [], ◌∷◌, Some, None, Option}
 use Rattle.machine.specs.Machine.{State, Core}
 use Rattle.a64.specs.declared.inst.ApiKey.{ApiKey}
 use Rattle.layout.specs.Slots.{Slot, pair_x, one_x, pair_d, one_d, one_q}

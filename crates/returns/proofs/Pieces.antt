@@ -1,23 +1,22 @@
 -- The pieces around the saves: the seal, the setup pair, the Tail resize and the return.
-use Rattle.std.proofs.Common.{◌≡◌, ℕ, zero, suc, ◌+◌, ◌-◌, ◌*◌, ◌/◌, ◌%◌, ◌^◌, ◌<◌, ◌≤◌, Bool, true, false, cond, not, ◌&&◌, ◌||◌, eqb, ltb, leb, ◌≢◌, ◌⊎◌, List, [], ◌∷◌, ◌++◌, ℤ, pos, negsuc, Some, None, Option, sym, refl, ap, ◌∙◌, subst, ap₂, inl, inr, arith}
-use Rattle.std.proofs.lemmas.Bool.Decides.{nat_tests, eqb_tells, leb_tells}
+use Rattle.std.proofs.Common.{◌≡◌, ℕ, ◌+◌, ◌-◌, ◌%◌, ◌^◌, ◌<◌, ◌≤◌, Bool, true, false, cond, not, ◌&&◌, eqb, ltb, ◌≢◌, ◌⊎◌, List, [], ◌∷◌, ◌++◌, pos, Some, None, Option, sym, refl, ap, ◌∙◌, subst, ap₂, inl, inr, arith}
+use Rattle.std.proofs.lemmas.Bool.Decides.{eqb_tells}
 use Rattle.a64.specs.Operands.{uimm12_of}
 use Rattle.a64.specs.declared.imm.UImm12Scaled.{UImm12Scaled}
 use Rattle.a64.specs.declared.inst.ApiKey.{ApiKey}
 use Rattle.a64.specs.declared.inst.Modifier.{Modifier}
 use Rattle.a64.specs.declared.inst.Inst.{Inst}
 use Rattle.a64.specs.declared.inst.Inst.TheVariants.{Paci, Auti, BtiC, Ret, RetAuth}
-use Rattle.machine.specs.Machine.{Mem, State, Core, LawfulCore, put, load, store, store2, plus, minus, read_z, with_sp, with_mem, with_x, write_z, modifier_of, Effect, next, back, only, reach, step}
-use Rattle.layout.specs.Slots.{Slot, pair_x}
+use Rattle.machine.specs.Machine.{State, Core, LawfulCore, load, store2, plus, with_sp, with_mem, write_z, modifier_of, next, back, only, reach, step}
 use Rattle.frame.specs.Forms.{mov_fp_sp_of, store_fp_lr, load_fp, load_fp_far}
-use Rattle.frame.specs.Pieces.{push, pop, with_sp, tail_reload_of, tail_reload_by}
+use Rattle.frame.specs.Pieces.{push, with_sp as seals_sp, tail_reload_of, tail_reload_by}
 use Rattle.returns.specs.Premises.{Words}
-use Rattle.returns.proofs.Frames.{pair, constant, lower, raise, landing, set_up, reload, resize, returning}
+use Rattle.returns.proofs.Frames.{pair, constant, lower, landing, set_up, reload, resize, returning}
 use Rattle.returns.proofs.Owed.{InX}
-use Rattle.returns.proofs.Mem.{put_same, put_other, load_agree}
-use Rattle.returns.proofs.Line.{Line, line-++, line_one, Goes, Ends, line_goes, goes-++, goes_one, goes_none, goes_ends, ends_one}
-use Rattle.returns.proofs.Slots.{minus_exact, plus_exact, reach_sp, Holds, saved_mem, push_one, saved_holds, saved_outside, two_outside, Room, load_of, pair_low, pair_high, read_z_x, Agree}
-use Rattle.returns.proofs.Adjust.{Set, Kept, kept_refl, kept_trans, At, lower_at, raise_at, constant_set, tf, ft}
+use Rattle.returns.proofs.Mem.{put_same, put_other}
+use Rattle.returns.proofs.Line.{line-++, line_one, Goes, Ends, line_goes, goes-++, goes_one, goes_none, goes_ends, ends_one}
+use Rattle.returns.proofs.Slots.{plus_exact, reach_sp, Holds, saved_mem, push_one, saved_holds, saved_outside, two_outside, Room, pair_low, pair_high}
+use Rattle.returns.proofs.Adjust.{Set, At, lower_at, constant_set, tf, ft}
 
 -- the return address after the landing
 abbrev pub sealed : Core → Option ApiKey → State → ℕ
@@ -45,21 +44,21 @@ landing_goes k None bti e = (e, bti_goes k e bti, set_none e)
 landing_goes k (Some q) bti e =
     let t : State = write_z 30 (k.seal q.key (modifier_of q.modifier e) (e.x 30)) e in (
       t,
-      goes-++ k (cond (bti && not (with_sp q.modifier)) (BtiC ∷ []) []) (Paci q.key q.modifier ∷ []) e e t
-          (bti_goes k e (bti && not (with_sp q.modifier))) (goes_one k (Paci q.key q.modifier) e t refl),
+      goes-++ k (cond (bti && not (seals_sp q.modifier)) (BtiC ∷ []) []) (Paci q.key q.modifier ∷ []) e e t
+          (bti_goes k e (bti && not (seals_sp q.modifier))) (goes_one k (Paci q.key q.modifier) e t refl),
       set_30 _ e,
     )
 
 -- The return: from SP and the sealed address it goes to the address that was sealed.
 abbrev pub FitsKey : Core → Option ApiKey → Bool → ℕ → State → Type 0
 FitsKey k None pauth given e = Unit {0}
-FitsKey k (Some q) pauth given e = (with_sp q.modifier ≡ true → given ≡ 0) × (pauth ≡ true → k.checked ≡ true)
+FitsKey k (Some q) pauth given e = (seals_sp q.modifier ≡ true → given ≡ 0) × (pauth ≡ true → k.checked ≡ true)
 
-same_modifier : (e s : State) (z : Modifier) (given : ℕ) → (with_sp z ≡ true → given ≡ 0) → s.sp ≡ e.sp + given → modifier_of z s ≡ modifier_of z e
+same_modifier : (e s : State) (z : Modifier) (given : ℕ) → (seals_sp z ≡ true → given ≡ 0) → s.sp ≡ e.sp + given → modifier_of z s ≡ modifier_of z e
 same_modifier e s Modifier.Zero given h p = refl
 same_modifier e s Modifier.Sp given h p = let g = h refl in omega arith
 
-sp_modifier : (z : Modifier) (s : State) → with_sp z ≡ true → s.sp ≡ modifier_of z s
+sp_modifier : (z : Modifier) (s : State) → seals_sp z ≡ true → s.sp ≡ modifier_of z s
 sp_modifier Modifier.Zero s h = absurd (ft h)
 sp_modifier Modifier.Sp s h = refl
 
@@ -69,7 +68,7 @@ pub returning_ends : (k : Core) (q : Option ApiKey) (pauth : Bool) (given : ℕ)
 unfolding step
 returning_ends k None pauth given e s law fit lr p q =
     (s, ends_one k Ret s (e.x 30) s (ap (λ z. back z s) q), set_none s)
-returning_ends k (Some c) pauth given e s law fit lr p q = go pauth (with_sp c.modifier) refl refl
+returning_ends k (Some c) pauth given e s law fit lr p q = go pauth (seals_sp c.modifier) refl refl
   where
     checks : k.check c.key (modifier_of c.modifier s) (s.x 30) ≡ e.x 30
     checks =
@@ -84,7 +83,7 @@ returning_ends k (Some c) pauth given e s law fit lr p q = go pauth (with_sp c.m
           record { here = refl; there = λ r n. put_other 30 (e.x 30) s.x r n; sp = refl; lo = refl; hi = refl; mem = refl; mapped = refl },
         )
 
-    go : (u w : Bool) → pauth ≡ u → with_sp c.modifier ≡ w
+    go : (u w : Bool) → pauth ≡ u → seals_sp c.modifier ≡ w
         → (t : State) × Ends k (cond (w && not (not u)) (RetAuth c.key ∷ []) (Auti c.key c.modifier ∷ Ret ∷ [])) s (e.x 30) t × Set 30 (t.x 30) s t
     go u false pu pw = hint
     go false true pu pw = hint

@@ -1,19 +1,18 @@
 -- Stack probes: they write below SP only, and leave SP.
-use Rattle.std.proofs.Common.{◌≡◌, ℕ, zero, suc, ◌+◌, ◌-◌, ◌*◌, ◌/◌, ◌%◌, ◌^◌, ◌<◌, ◌≤◌, Bool, true, false, cond, not, ◌&&◌, ◌||◌, eqb, ltb, leb, ◌≢◌, ◌⊎◌, List, [], ◌∷◌, ◌++◌, length, ℤ, pos, negsuc, Some, None, Option, sym, refl, ap, ◌∙◌, subst, ap₂, inl, inr, append_assoc, arith, length-append}
-use mathlib.Core.Bool.{beq}
-use Rattle.std.proofs.lemmas.Bool.Decides.{nat_tests, eqb_tells, leb_tells}
+use Rattle.std.proofs.Common.{◌≡◌, ℕ, zero, suc, ◌+◌, ◌-◌, ◌*◌, ◌/◌, ◌%◌, ◌^◌, ◌<◌, ◌≤◌, Bool, true, false, cond, ◌&&◌, eqb, ltb, leb, ◌≢◌, ◌⊎◌, List, [], ◌∷◌, ◌++◌, length, negsuc, Some, None, sym, refl, ap, ◌∙◌, subst, ap₂, inl, inr, append_assoc, arith, length-append}
+use Rattle.std.proofs.lemmas.Bool.Decides.{nat_tests, leb_tells}
 use Rattle.a64.specs.Operands.{imm12_of, imm12_value}
 use Rattle.a64.specs.declared.imm.Imm12.{Imm12}
 use Rattle.a64.specs.declared.inst.Inst.{Inst}
 use Rattle.a64.specs.declared.inst.Inst.TheVariants.{BGt}
-use Rattle.machine.specs.Machine.{State, Core, put, store, plus, minus, read_z, with_sp, with_mem, with_flags, write_z, add_flags, greater, negative, reach, only, Effect, next, branch, step, Comes, Point, at, after, ahead, stopped, run}
+use Rattle.machine.specs.Machine.{State, Core, put, store, plus, minus, with_mem, with_flags, write_z, add_flags, greater, reach, only, next, branch, step, Comes, at, after, stopped, run}
 use Rattle.steps.specs.Forms.{probe_sp, step_down, probe_below, compare_end}
 use Rattle.steps.specs.Probes.{gen_inline_probestack_of, stack_probe_loop_of}
 use Rattle.returns.proofs.Frames.{constant, lower, raise, probe_loop, unrolled, probes}
 use Rattle.returns.proofs.Mem.{put_same, put_other, store_below, store_above}
-use Rattle.returns.proofs.Line.{Line, line-++, line_one, Goes, line_goes, goes-++, goes_one, goes_none, one_move, comes_trans}
-use Rattle.returns.proofs.Slots.{minus_exact, plus_exact, reach_sp}
-use Rattle.returns.proofs.Adjust.{Kept, kept_refl, kept_trans, At, lower_at, raise_at, Const, constant_set, Set, imm12_value}
+use Rattle.returns.proofs.Line.{Line, Goes, line_goes, goes-++, goes_one, goes_none, one_move, comes_trans}
+use Rattle.returns.proofs.Slots.{plus_exact, reach_sp}
+use Rattle.returns.proofs.Adjust.{Kept, kept_refl, kept_trans, At, lower_at, raise_at, Const, constant_set, imm12_value_is}
 
 -- x16 is minus d.
 abbrev down : ℕ → ℕ
@@ -354,7 +353,7 @@ probes_goes k p g s g16 gs ga gi ps space = go (eqb (p / g) 0) (leb (p / g) 3) (
     far : (i : Imm12) × (imm12_of g ≡ Some i) → Probing k (constant 16 0 ++ (constant 17 p ++ probe_loop g)) (p + g) s
     far w =
         subst (λ o. Probing k (constant 16 0 ++ (constant 17 p ++ stack_probe_loop_of o)) (p + g) s) (sym w.1)
-        (loop_goes k w.0 p g s g16 (omega arith) (imm12_value g w.0 w.1) ps space)
+        (loop_goes k w.0 p g s g16 (omega arith) (imm12_value_is g w.0 w.1) ps space)
 
     go : (a b : Bool) → (i : Imm12) × (imm12_of g ≡ Some i)
         → Probing k (cond a [] (cond b (unrolled g (p / g) ++ raise (g * (p / g))) (constant 16 0 ++ (constant 17 p ++ probe_loop g)))) (p + g) s

@@ -1,24 +1,15 @@
 -- Prologue and epilogue of an accepted sheet, from every entry state and every lawful body.
-use Rattle.std.proofs.Common.{◌≡◌, ℕ, zero, suc, ◌+◌, ◌-◌, ◌*◌, ◌/◌, ◌%◌, ◌^◌, ◌<◌, ◌≤◌, Bool, true, false, cond, not, ◌&&◌, ◌||◌, ◌⊎◌, List, [], ◌∷◌, ◌++◌, length, Some, None, Option, sym, refl, ap, ◌∙◌, subst, ap₂, inl, inr, append_assoc, arith, length-append}
-use Rattle.a64.specs.declared.inst.ApiKey.{ApiKey}
-use Rattle.a64.specs.declared.inst.Modifier.{Modifier}
-use Rattle.a64.specs.declared.inst.Inst.{Inst}
-use Rattle.a64.specs.declared.inst.Inst.TheVariants.{Paci, BtiC}
-use Rattle.machine.specs.Machine.{State, Core, LawfulCore, LandingPad, at, returned, Comes}
-use Rattle.layout.specs.Slots.{slots_of}
+use Rattle.std.proofs.Common.{◌≡◌, ◌+◌, ◌≤◌, Bool, true, false, cond, ◌||◌, List, [], ◌∷◌, ◌++◌, length, sym, refl, subst, arith}
+use Rattle.machine.specs.Machine.{State, Core, LawfulCore, at, returned, Comes}
 use Rattle.sheet.specs.Accepted.{Accepted}
 use Rattle.sheet.specs.Plain.{PlainSheet, same}
-use Rattle.sheet.specs.Saved.{clobber_size_of, sets_up, setup_size}
 use Rattle.sheet.specs.declared.types.CallConv.{CallConv}
-use Rattle.frame.specs.Pieces.{with_sp, select_api_key_of, incoming_args_diff_of, stack_size_of, sealed, gen_prologue_frame_setup_of, prologue}
-use Rattle.sink.specs.Items.{insts_in}
-use Rattle.returns.specs.Premises.{keeps_x, keeps_lo, keeps_hi, clobbers_x, clobbers_v, need, given_back, Entry, Lawful, Leaves, All, last, Body}
-use Rattle.returns.specs.Returns.{CameBack, opens, closes, standing, ReturnsFrom, Returns, Lands}
-use Rattle.returns.proofs.Adjust.{tf, ft}
+use Rattle.returns.specs.Premises.{clobbers_x, clobbers_v, need, given_back, Entry, Lawful, Leaves, All, last}
+use Rattle.returns.specs.Returns.{CameBack, opens, closes, standing, ReturnsFrom, Returns}
 use Rattle.returns.proofs.Frames as F
 use Rattle.returns.proofs.Owed as O
 use Rattle.returns.proofs.Line.{Goes, Ends}
-use Rattle.returns.proofs.Whole.{Framed, Framing, Ending, prologue_goes, epilogue_ends, ends_in, saves_bytes, guard_need}
+use Rattle.returns.proofs.Whole.{Framed, Ending, prologue_goes, epilogue_ends, ends_in, saves_bytes, guard_need}
 use Rattle.returns.proofs.Laid.{frame_of, laid_sound, laid_x, laid_lo, laid_hi, laid_wide, kept_low, slots_bytes, given_cases}
 use Rattle.returns.proofs.Texts.{prologue_insts, epilogue_insts}
 
@@ -28,7 +19,7 @@ need_same h ok =
     let p = probe h.flags.inline_probes refl in
     omega arith
   where
-    probe : (b : Bool) → h.flags.inline_probes ≡ b → O.probeNeed (cond b h.sizes.guard 0) ≡ cond b (16 + h.sizes.guard) 0
+    probe : (b : Bool) → h.flags.inline_probes ≡ b → O.probe_need (cond b h.sizes.guard 0) ≡ cond b (16 + h.sizes.guard) 0
     probe true q = guard_need h.sizes.guard (omega (arith, (ok.guarded q).0))
     probe false q = refl
 

@@ -1,33 +1,11 @@
 -- The central lemma: pushes lower SP and leave the registers in memory; pops from any state with these bytes bring them back.
-use Rattle.std.proofs.Common.{◌≡◌, ℕ, zero, suc, ◌+◌, ◌-◌, ◌*◌, ◌/◌, ◌%◌, ◌^◌, ◌<◌, ◌≤◌, Bool, true, false, cond, not, ◌&&◌, ◌||◌, eqb, leb, ◌≢◌, ◌⊎◌, List, [], ◌∷◌, ◌++◌, sym, refl, ap, ◌∙◌, subst, ap₂, inl, inr, mod-eq_of_lt, arith}
+use Rattle.std.proofs.Common.{◌≡◌, ℕ, ◌+◌, ◌-◌, ◌%◌, ◌^◌, ◌<◌, ◌≤◌, true, ◌&&◌, eqb, leb, ◌⊎◌, List, [], ◌∷◌, sym, refl, ap, ◌∙◌, subst, ap₂, inl, inr, mod-eq_of_lt, arith}
 use Rattle.std.proofs.lemmas.Bool.Decides.{nat_tests}
-use Rattle.machine.specs.Machine.{
-  Mem,
-  State,
-  Core,
-  put,
-  load,
-  store,
-  store2,
-  allMapped,
-  plus,
-  minus,
-  readZ,
-  withSP,
-  withMem,
-  withX,
-  withV,
-  writeZ,
-  Effect,
-  next,
-  only,
-  reach,
-  step,
-}
+use Rattle.machine.specs.Machine.{Mem, State, Core, put, load, store, store2, all_mapped, plus, minus, read_z, with_sp, with_mem, with_v, write_z, next, only, reach, step}
 use Rattle.layout.specs.Slots.{Slot, pair_x, one_x, pair_d, one_d, one_q}
 use Rattle.frame.specs.Pieces.{push, pop}
 use Rattle.returns.proofs.Frames.{pushes, pops, bytes}
-use Rattle.returns.proofs.Owed.{InX, InLo, InHi, Any, Wide, AllWide, Savable, Good, GoodAll}
+use Rattle.returns.proofs.Owed.{InX, InLo, InHi, Any, Wide, AllWide, Good, GoodAll}
 use Rattle.returns.proofs.Mem.{put_keep, put_set, store_below, store_above, load_agree, load_same, load_disjoint, mapped_all}
 use Rattle.returns.proofs.Line.{Line, line-++, line_one}
 
@@ -46,13 +24,13 @@ leb_le a b h = grind (arith, nat_tests)
 
 pub reach_sp : (s : State) (n a : ℕ) → s.sp % 16 ≡ 0 → a + n ≤ 2 ^ 64 → ((b : ℕ) → a ≤ b → b < a + n → s.mapped b ≡ true) → reach s 31 n a ≡ true
 reach_sp s n a al top h =
-    ap (λ z. z && leb (a + n) (2 ^ 64) && allMapped n a s.mapped) (ap (λ z. eqb z 0) al)
+    ap (λ z. z && leb (a + n) (2 ^ 64) && all_mapped n a s.mapped) (ap (λ z. eqb z 0) al)
     ∙ ap₂ (λ u w. u && w) (leb_le (a + n) (2 ^ 64) top) (mapped_all n a s.mapped h)
 
 -- what a push writes
 abbrev pub saved_mem : Slot → State → ℕ → Mem
-saved_mem (pair_x t u) s a = store2 a (readZ s t) (readZ s u) s.mem
-saved_mem (one_x t) s a = store 8 a (readZ s t) s.mem
+saved_mem (pair_x t u) s a = store2 a (read_z s t) (read_z s u) s.mem
+saved_mem (one_x t) s a = store 8 a (read_z s t) s.mem
 saved_mem (pair_d t u) s a = store2 a (s.lo t) (s.lo u) s.mem
 saved_mem (one_d t) s a = store 8 a (s.lo t) s.mem
 saved_mem (one_q t) s a = store2 a (s.lo t) (s.hi t) s.mem
@@ -71,7 +49,7 @@ width_le (pair_d t u) = omega arith
 width_le (one_d t) = omega arith
 width_le (one_q t) = omega arith
 
-push_step : (k : Core) (σ : Slot) (s : State) → step k (push σ) s ≡ only (reach s 31 (width σ) (minus s.sp 16)) (next (withSP (minus s.sp 16) (withMem (saved_mem σ s (minus s.sp 16)) s)))
+push_step : (k : Core) (σ : Slot) (s : State) → step k (push σ) s ≡ only (reach s 31 (width σ) (minus s.sp 16)) (next (with_sp (minus s.sp 16) (with_mem (saved_mem σ s (minus s.sp 16)) s)))
 unfolding step
 push_step k (pair_x t u) s = refl
 push_step k (one_x t) s = refl
@@ -82,13 +60,13 @@ push_step k (one_q t) s = refl
 -- A push through SP, at an address a that is 16 below it.
 pub push_one : (k : Core) (σ : Slot) (s : State) (a : ℕ) → a + 16 ≡ s.sp → s.sp % 16 ≡ 0 → s.sp < 2 ^ 64
     → ((b : ℕ) → a ≤ b → b < a + 16 → s.mapped b ≡ true)
-    → step k (push σ) s ≡ next (withSP a (withMem (saved_mem σ s a) s))
+    → step k (push σ) s ≡ next (with_sp a (with_mem (saved_mem σ s a) s))
 push_one k σ s a ha al hs hm =
     let m : minus s.sp 16 ≡ a = minus_exact s.sp 16 (omega arith) hs ∙ omega arith in
     let w = width_le σ in
     push_step k σ s
-    ∙ ap (λ z. only (reach s 31 (width σ) z) (next (withSP z (withMem (saved_mem σ s z) s)))) m
-    ∙ ap (λ g. only g (next (withSP a (withMem (saved_mem σ s a) s)))) (reach_sp s (width σ) a al (omega arith) (λ b l u. hm b l (omega arith)))
+    ∙ ap (λ z. only (reach s 31 (width σ) z) (next (with_sp z (with_mem (saved_mem σ s z) s)))) m
+    ∙ ap (λ g. only g (next (with_sp a (with_mem (saved_mem σ s a) s)))) (reach_sp s (width σ) a al (omega arith) (λ b l u. hm b l (omega arith)))
 
 -- Integer registers that are no register 31.
 abbrev pub Below : Slot → Type 0
@@ -164,7 +142,7 @@ pub pair_high : (a v w : ℕ) (m : Mem) → w < 2 ^ 64 → load 8 (a + 8) (store
 pair_high a v w m h = word_back (a + 8) w (store 8 a v m) h
 
 -- A register below 31 reads as itself, and is a word.
-pub read_z_x : (s : State) (r : ℕ) → r < 31 → readZ s r ≡ s.x r
+pub read_z_x : (s : State) (r : ℕ) → r < 31 → read_z s r ≡ s.x r
 read_z_x s r h = grind (arith, nat_tests)
 
 -- The registers that count are words.
@@ -173,7 +151,7 @@ pub record WordsAt (X : ℕ → Type 0) (e : State) : Type 0 where
   pub lo : (r : ℕ) → r < 32 → e.lo r < 2 ^ 64
   pub hi : (r : ℕ) → r < 32 → e.hi r < 2 ^ 64
 
-read_z_word : (s : State) (r : ℕ) → r < 31 → s.x r < 2 ^ 64 → readZ s r < 2 ^ 64
+read_z_word : (s : State) (r : ℕ) → r < 31 → s.x r < 2 ^ 64 → read_z s r < 2 ^ 64
 read_z_word s r h w = subst (λ z. z < 2 ^ 64) (sym (read_z_x s r h)) w
 
 pub saved_holds : (s : State) (σ : Slot) (a : ℕ) → WordsAt (InX σ) s → Below σ → Holds s σ a (saved_mem σ s a)
@@ -260,7 +238,7 @@ push_more k σ R e room w g p = (
     al = omega (arith, l.sp, room.aligned, bytes_16 R)
 
     t : State
-    t = withSP a (withMem (saved_mem σ s a) s)
+    t = with_sp a (with_mem (saved_mem σ s a) s)
 
     mapped : (b : ℕ) → a ≤ b → b < a + 16 → s.mapped b ≡ true
     mapped b h u = ap (λ f. f b) l.same.mapped ∙ room.mapped b (omega arith) (omega arith)
@@ -282,15 +260,15 @@ pushes_save k (σ ∷ R) e room w g = push_more k σ R e room (record { x = λ r
 
 -- what a pop reads
 abbrev pub loaded : Slot → State → State
-loaded (pair_x t u) s = writeZ u (load 8 (s.sp + 8) s.mem) (writeZ t (load 8 s.sp s.mem) s)
-loaded (one_x t) s = writeZ t (load 8 s.sp s.mem) s
+loaded (pair_x t u) s = write_z u (load 8 (s.sp + 8) s.mem) (write_z t (load 8 s.sp s.mem) s)
+loaded (one_x t) s = write_z t (load 8 s.sp s.mem) s
 loaded (pair_d t u) s =
-    withV (put u (load 8 (s.sp + 8) s.mem) (put t (load 8 s.sp s.mem) s.lo)) (put u 0 (put t 0 s.hi)) s
-loaded (one_d t) s = withV (put t (load 8 s.sp s.mem) s.lo) (put t 0 s.hi) s
+    with_v (put u (load 8 (s.sp + 8) s.mem) (put t (load 8 s.sp s.mem) s.lo)) (put u 0 (put t 0 s.hi)) s
+loaded (one_d t) s = with_v (put t (load 8 s.sp s.mem) s.lo) (put t 0 s.hi) s
 loaded (one_q t) s =
-    withV (put t (load 8 s.sp s.mem) s.lo) (put t (load 8 (s.sp + 8) s.mem) s.hi) s
+    with_v (put t (load 8 s.sp s.mem) s.lo) (put t (load 8 (s.sp + 8) s.mem) s.hi) s
 
-pop_step : (k : Core) (σ : Slot) (s : State) → step k (pop σ) s ≡ only (reach s 31 (width σ) s.sp) (next (withSP (plus s.sp 16) (loaded σ s)))
+pop_step : (k : Core) (σ : Slot) (s : State) → step k (pop σ) s ≡ only (reach s 31 (width σ) s.sp) (next (with_sp (plus s.sp 16) (loaded σ s)))
 unfolding step
 pop_step k (pair_x t u) s = refl
 pop_step k (one_x t) s = refl
@@ -300,12 +278,12 @@ pop_step k (one_q t) s = refl
 
 pub pop_one : (k : Core) (σ : Slot) (s : State) → s.sp % 16 ≡ 0 → s.sp + 16 < 2 ^ 64
     → ((b : ℕ) → s.sp ≤ b → b < s.sp + 16 → s.mapped b ≡ true)
-    → step k (pop σ) s ≡ next (withSP (s.sp + 16) (loaded σ s))
+    → step k (pop σ) s ≡ next (with_sp (s.sp + 16) (loaded σ s))
 pop_one k σ s al hs hm =
     let w = width_le σ in
     pop_step k σ s
-    ∙ ap (λ z. only (reach s 31 (width σ) s.sp) (next (withSP z (loaded σ s)))) (plus_exact s.sp 16 hs)
-    ∙ ap (λ g. only g (next (withSP (s.sp + 16) (loaded σ s)))) (reach_sp s (width σ) s.sp al (omega arith) (λ b l u. hm b l (omega arith)))
+    ∙ ap (λ z. only (reach s 31 (width σ) s.sp) (next (with_sp z (loaded σ s)))) (plus_exact s.sp 16 hs)
+    ∙ ap (λ g. only g (next (with_sp (s.sp + 16) (loaded σ s)))) (reach_sp s (width σ) s.sp al (omega arith) (λ b l u. hm b l (omega arith)))
 
 -- From s to t registers that are e's stay e's, and those of the families become e's.
 pub record Back (e s t : State) (X L H : ℕ → Type 0) (W : Type 0) : Type 0 where
@@ -326,7 +304,7 @@ set2 t u v w f g r p q (inl h) = put_keep u w (put t v f) g r q (put_set t v f g
 set2 t u v w f g r p q (inr h) = put_set u w (put t v f) g r q h
 
 pub pop_back : (e : State) (σ : Slot) (s : State) → Holds e σ s.sp s.mem
-    → Back e s (withSP (s.sp + 16) (loaded σ s)) (InX σ) (InLo σ) (InHi σ) (Wide σ)
+    → Back e s (with_sp (s.sp + 16) (loaded σ s)) (InX σ) (InLo σ) (InHi σ) (Wide σ)
 pop_back e (pair_x t u) s h =
     record {
       keep_x = λ r q. keep2 t u _ _ s.x e.x r h.0 h.1 q;
@@ -412,7 +390,7 @@ pops_restore k [] e s ab h = (
 pops_restore k (σ ∷ R) e s ab h = join (pops_restore k R e m (record { aligned = omega (arith, ab.aligned); small = omega (arith, ab.small); mapped = mapped }) (rest))
   where
     m : State
-    m = withSP (s.sp + 16) (loaded σ s)
+    m = with_sp (s.sp + 16) (loaded σ s)
 
     b1 : Back e s m (InX σ) (InLo σ) (InHi σ) (Wide σ)
     b1 = pop_back e σ s h.0

@@ -1,5 +1,5 @@
 -- The items that the pieces put are, as instructions, those of the frame with its parts apart.
-use Rattle.std.proofs.Common.{◌≡◌, ℕ, zero, suc, ◌+◌, ◌-◌, ◌*◌, ◌/◌, ◌%◌, ◌^◌, ◌<◌, ◌≤◌, Bool, true, false, cond, not, ◌&&◌, ◌||◌, eqb, ◌⊎◌, List, [], ◌∷◌, ◌++◌, Some, None, Option, sym, refl, ap, ◌∙◌, subst, ap₂, inl, inr, append_assoc, append-nil, arith}
+use Rattle.std.proofs.Common.{◌≡◌, ℕ, ◌+◌, ◌≤◌, Bool, true, false, cond, not, ◌&&◌, ◌||◌, eqb, ◌⊎◌, List, [], ◌∷◌, ◌++◌, Some, None, Option, sym, refl, ap, ◌∙◌, ap₂, inl, inr, append_assoc, append-nil, arith}
 use Rattle.std.proofs.lemmas.Bool.Decides.{nat_tests, eqb_tells}
 use Rattle.a64.specs.declared.inst.AddSub.{AddSub}
 use Rattle.a64.specs.declared.inst.ApiKey.{ApiKey}
@@ -63,7 +63,7 @@ sealed_insts h None =
     ∙ insts_code pads
 
 setup_insts : (h : PlainSheet) (b : Bool) (n : ℕ)
-    → insts_in (cond b (Item.Inst (push_pair_of PairClass.X 29 30) ∷ (noting h (PushFrameRegs n) ++ (Item.Inst mov_fp_sp_of ∷ []))) []) ≡ F.setUp b
+    → insts_in (cond b (Item.Inst (push_pair_of PairClass.X 29 30) ∷ (noting h (PushFrameRegs n) ++ (Item.Inst mov_fp_sp_of ∷ []))) []) ≡ F.set_up b
 setup_insts h true n =
     ap (λ z. push_pair_of PairClass.X 29 30 ∷ z) (before_none (noting h (PushFrameRegs n)) (Item.Inst mov_fp_sp_of ∷ []) (no_insts h (PushFrameRegs n)))
 setup_insts h false n = refl
@@ -156,12 +156,12 @@ unfolding prologue
 prologue_insts h ok =
     insts-++ (gen_prologue_frame_setup_of h) (probing ++ gen_clobber_save_of h)
     ∙ ap₂ (λ y z. y ++ z) front (insts-++ probing (gen_clobber_save_of h) ∙ ap₂ (λ y z. y ++ z) (probing_insts h ok) (save_insts h))
-    ∙ append_assoc (F.landing (select_api_key_of h) h.flags.use_bti) (F.setUp (sets_up h)) _
+    ∙ append_assoc (F.landing (select_api_key_of h) h.flags.use_bti) (F.set_up (sets_up h)) _
   where
     probing : List Item
     probing = code (cond h.flags.inline_probes (gen_inline_probestack_of (probe_size_of h) h.sizes.guard) [])
 
-    front : insts_in (gen_prologue_frame_setup_of h) ≡ F.landing (select_api_key_of h) h.flags.use_bti ++ F.setUp (sets_up h)
+    front : insts_in (gen_prologue_frame_setup_of h) ≡ F.landing (select_api_key_of h) h.flags.use_bti ++ F.set_up (sets_up h)
     front =
         insts-++ (sealed h (select_api_key_of h)) _
         ∙ ap₂ (λ y z. y ++ z) (sealed_insts h (select_api_key_of h)) (setup_insts h (sets_up h) (setup_size h))

@@ -1,20 +1,19 @@
 -- Every call of every tree comes back. The invariant: a call changes no memory from its entry SP + incoming up to the tree's top.
-use Rattle.std.proofs.Common.{◌≡◌, ℕ, zero, suc, ◌+◌, ◌-◌, ◌*◌, ◌/◌, ◌%◌, ◌^◌, ◌<◌, ◌≤◌, Bool, true, false, cond, leb, ◌≢◌, ◌⊎◌, List, [], ◌∷◌, ◌++◌, length, sym, refl, ap, ◌∙◌, subst, ap₂, inl, inr, arith}
+use Rattle.std.proofs.Common.{◌≡◌, ℕ, ◌+◌, ◌<◌, ◌≤◌, Bool, true, false, cond, leb, ◌⊎◌, List, ◌++◌, length, sym, refl, ap, ◌∙◌, subst, inl, inr, arith}
 use Rattle.std.proofs.lemmas.Bool.Decides.{leb_tells}
 use Rattle.a64.specs.declared.inst.Inst.{Inst}
-use Rattle.machine.specs.Machine.{State, Core, LawfulCore, Point, at, returned, Comes, with_sp}
-use Rattle.sheet.specs.Accepted.{Accepted}
+use Rattle.machine.specs.Machine.{State, Core, LawfulCore, at, returned, Comes}
 use Rattle.sheet.specs.Plain.{PlainSheet}
 use Rattle.sheet.specs.Saved.{clobber_size_of, sets_up, setup_size}
 use Rattle.frame.specs.Pieces.{incoming_args_diff_of, stack_size_of}
-use Rattle.returns.specs.Premises.{need, given_back, Entry, Lawful, Leaves}
+use Rattle.returns.specs.Premises.{need, Entry, Lawful, Leaves}
 use Rattle.returns.specs.Returns.{CameBack, opens, closes, standing}
 use Rattle.returns.specs.Trees.{Fun, body_at, epilogue_at, Stands, Own, Calls, resumed, Tree, end, own, call, Runs, TreesReturn}
-use Rattle.returns.proofs.Line.{Goes, Ends}
-use Rattle.returns.proofs.Adjust.{tf, ft}
+use Rattle.returns.proofs.Line.{Ends}
+use Rattle.returns.proofs.Adjust.{tf}
 use Rattle.returns.proofs.Whole.{Framed, ends_in, saves_bytes}
 use Rattle.returns.proofs.Laid.{frame_of, slots_bytes, bare_sheet, regular_sets, kept_low}
-use Rattle.returns.proofs.Sheets.{Opens, opens_goes, Closes, closes_ends, Left, lawful_refl, leaves_refl, given_le, need_same}
+use Rattle.returns.proofs.Sheets.{Opens, opens_goes, Closes, closes_ends, Left, lawful_refl, leaves_refl}
 
 -- What is known in a body: f was entered in e, s is the state after the prologue, a is the state now.
 record Inside (k : Core) (code : List Inst) (low high : ℕ) (f : Fun) (e s a : State) : Type 0 where
@@ -122,9 +121,9 @@ step_call k code low high f g e s a e' u i c l =
           };
       leaves =
           record {
-            x = λ n h d. l.back.x n (c.keepsX n h d) ∙ c.x n (omega (arith, (kept_low f.sheet n h).0)) ∙ i.leaves.x n h d;
-            lo = λ n h d. l.back.lo n (c.keepsLo n h d) ∙ ap (λ z. z n) c.lo ∙ i.leaves.lo n h d;
-            hi = λ n h d. l.back.hi n (c.keepsHi n h d) ∙ ap (λ z. z n) c.hi ∙ i.leaves.hi n h d;
+            x = λ n h d. l.back.x n (c.keeps_x n h d) ∙ c.x n (omega (arith, (kept_low f.sheet n h).0)) ∙ i.leaves.x n h d;
+            lo = λ n h d. l.back.lo n (c.keeps_lo n h d) ∙ ap (λ z. z n) c.lo ∙ i.leaves.lo n h d;
+            hi = λ n h d. l.back.hi n (c.keeps_hi n h d) ∙ ap (λ z. z n) c.hi ∙ i.leaves.hi n h d;
           };
       quiet = λ b h t. l.quiet b (omega arith) t ∙ ap (λ z. z b) c.mem ∙ i.quiet b h t;
     }

@@ -1,17 +1,17 @@
 -- Prologue, lawful body, epilogue: the whole frame.
-use Rattle.std.proofs.Common.{◌≡◌, ℕ, zero, suc, ◌+◌, ◌-◌, ◌*◌, ◌/◌, ◌%◌, ◌^◌, ◌<◌, ◌≤◌, Bool, true, false, cond, not, ◌&&◌, ◌||◌, eqb, ltb, leb, ◌≢◌, ◌⊎◌, List, [], ◌∷◌, ◌++◌, length, Some, None, Option, sym, refl, ap, ◌∙◌, subst, ap₂, inl, inr, append_assoc, arith, length-append}
-use Rattle.std.proofs.lemmas.Bool.Decides.{nat_tests, eqb_tells, leb_tells}
+use Rattle.std.proofs.Common.{◌≡◌, ℕ, zero, suc, ◌+◌, ◌-◌, ◌%◌, ◌^◌, ◌<◌, ◌≤◌, Bool, true, false, cond, eqb, ◌≢◌, ◌⊎◌, List, [], ◌∷◌, ◌++◌, length, Some, None, Option, sym, refl, ap, ◌∙◌, subst, inl, inr, append_assoc, arith, length-append}
+use Rattle.std.proofs.lemmas.Bool.Decides.{eqb_tells}
 use Rattle.a64.specs.declared.inst.ApiKey.{ApiKey}
 use Rattle.a64.specs.declared.inst.Inst.{Inst}
-use Rattle.machine.specs.Machine.{Mem, State, Core, LawfulCore, load, write_z, Point, at, returned, Comes}
+use Rattle.machine.specs.Machine.{Mem, State, Core, LawfulCore, write_z, at, returned, Comes}
 use Rattle.layout.specs.Slots.{Slot, pair_x, one_x, pair_d, one_d, one_q}
 use Rattle.returns.specs.Premises.{Words}
 use Rattle.returns.proofs.Frames.{pair, pushes, pops, bytes, lower, raise, Frame, landing, set_up, probes, probing, resize, prologue, saves, returning, epilogue}
-use Rattle.returns.proofs.Owed.{InX, InLo, InHi, Any, Wide, AllWide, Savable, Good, GoodAll, setup_size, probe_need, need, Guarded, Keyed, Sound, Entry, Lawful, Restored}
+use Rattle.returns.proofs.Owed.{InX, InLo, InHi, Any, AllWide, Savable, Good, GoodAll, setup_size, probe_need, need, Guarded, Keyed, Sound, Entry, Lawful, Restored}
 use Rattle.returns.proofs.Mem.{put_same, put_other}
-use Rattle.returns.proofs.Line.{Goes, Ends, line_goes, goes-++, goes_one, goes_none, goes_ends, comes_trans}
-use Rattle.returns.proofs.Slots.{Holds, HoldsAll, Room, Lower, Same, WordsAt, Pushed, pushes_save, Above, Back, Popped, pops_restore, all_agree, Agree, holds_agree, part_of, bytes_16}
-use Rattle.returns.proofs.Adjust.{Set, Kept, kept_refl, kept_trans, At, lower_at, raise_at, tf, ft}
+use Rattle.returns.proofs.Line.{Goes, Ends, line_goes, goes-++, goes_none, goes_ends}
+use Rattle.returns.proofs.Slots.{Holds, HoldsAll, Room, Lower, WordsAt, Pushed, pushes_save, Above, Back, Popped, pops_restore, all_agree, holds_agree, bytes_16}
+use Rattle.returns.proofs.Adjust.{Set, Kept, kept_refl, At, lower_at, raise_at, tf, ft}
 use Rattle.returns.proofs.Probe.{Probed, Space, Probing, probes_goes}
 use Rattle.returns.proofs.Pieces.{sealed, sealed_word, Set-up, landing_goes, setup_goes, resize_goes, returning_ends, FitsKey}
 
@@ -280,8 +280,8 @@ pair_bytes : (b : Bool) → bytes (cond b (pair ∷ []) []) ≡ cond b 16 0
 pair_bytes true = refl
 pair_bytes false = refl
 
-setup_size : (f : Frame) (b : Bool) → f.setup ≡ b → setup_size f ≡ cond b 16 0
-setup_size f b q = ap (λ z. cond z 16 0) q
+setup_size_is : (f : Frame) (b : Bool) → f.setup ≡ b → setup_size f ≡ cond b 16 0
+setup_size_is f b q = ap (λ z. cond z 16 0) q
 
 pub saves_bytes : (f : Frame) → bytes (saves f) ≡ bytes f.slots + setup_size f
 saves_bytes f = bytes-++ f.slots (cond f.setup (pair ∷ []) []) ∙ ap (λ z. bytes f.slots + z) (pair_bytes f.setup)
@@ -300,7 +300,7 @@ aligned_down false a g z h p q = omega arith
 
 base_room : (k : Core) (f : Frame) (b : Bool) (e s : State) → Sound f → Entry k f e → f.setup ≡ b → Base k f b e s → Room s (bytes f.slots)
 base_room k f b e s ok en q v =
-    let size = setup_size f b q in
+    let size = setup_size_is f b q in
     record {
       aligned = aligned_down b s.sp f.grow e.sp v.sp en.aligned ok.grow16;
       enough = omega (arith, v.sp, en.enough);
@@ -333,7 +333,7 @@ framed_end : (k : Core) (f : Frame) (b : Bool) (e s m t : State) → Sound f →
     → Lower s m (bytes f.slots) → HoldsAll s f.slots m.sp m.mem
     → t.sp + f.area ≡ m.sp → Kept m t → t.mem ≡ m.mem → Framed k f e t
 framed_end k f b e s m t ok en q v p h tsp a tm =
-    let size = setup_size f b q in
+    let size = setup_size_is f b q in
     let total = saves_bytes f in
     let msp = p.sp in
     let vsp = v.sp in
@@ -351,7 +351,7 @@ framed_end k f b e s m t ok en q v p h tsp a tm =
     }
   where
     within : (c : ℕ) → (c + need f < e.sp) ⊎ (e.sp ≤ c) → (c < m.sp) ⊎ (s.sp ≤ c)
-    within c (inl h) = inl (omega (arith, p.sp, v.sp, setup_size f b q))
+    within c (inl h) = inl (omega (arith, p.sp, v.sp, setup_size_is f b q))
     within c (inr h) = inr (omega (arith, v.sp))
 
 abbrev pub Framing : Core → Frame → State → List Inst → State → Type 0
@@ -360,7 +360,7 @@ Framing k f e is s = (t : State) × Goes k is s t × Framed k f e t
 framed_area : (k : Core) (f : Frame) (b : Bool) (e s : State) → Sound f → Entry k f e → f.setup ≡ b → Base k f b e s
     → (p : Pushed k f.slots s) → At k (lower f.area) (p.0.sp - f.area) p.0 → Framing k f e (pushes f.slots ++ lower f.area) s
 framed_area k f b e s ok en q v p a =
-    let size = setup_size f b q in (
+    let size = setup_size_is f b q in (
       a.0,
       goes-++ k (pushes f.slots) (lower f.area) s p.0 a.0 (line_goes k (pushes f.slots) s p.0 p.1) a.1,
       framed_end k f b e s p.0 a.0 ok en q v p.2 p.3 (omega (arith, a.2, p.2.sp, v.sp, en.enough)) a.3 a.4,
@@ -369,7 +369,7 @@ framed_area k f b e s ok en q v p a =
 framed_push : (k : Core) (f : Frame) (b : Bool) (e s : State) → Sound f → Entry k f e → f.setup ≡ b → Base k f b e s
     → Pushed k f.slots s → Framing k f e (pushes f.slots ++ lower f.area) s
 framed_push k f b e s ok en q v p =
-    let size = setup_size f b q in
+    let size = setup_size_is f b q in
     framed_area k f b e s ok en q v p
     (lower_at k f.area p.0 (omega (arith, ok.sum)) (omega (arith, p.2.sp, v.sp, en.enough)) (omega (arith, p.2.sp, v.sp, en.small)))
 

@@ -1,13 +1,11 @@
 -- Entry states and bodies exist.
-use Rattle.std.proofs.Common.{◌≡◌, ℕ, zero, suc, ◌+◌, ◌-◌, ◌*◌, ◌/◌, ◌%◌, ◌^◌, ◌<◌, ◌≤◌, Bool, true, false, cond, not, ◌&&◌, ◌||◌, eqb, ◌≢◌, ◌⊎◌, List, [], ◌∷◌, sym, refl, ap, ◌∙◌, subst, ap₂, inl, inr, arith}
+use Rattle.std.proofs.Common.{◌≡◌, ℕ, ◌+◌, ◌^◌, ◌≤◌, Bool, true, false, cond, eqb, ◌≢◌, ◌⊎◌, refl, inl, inr, arith}
 use Rattle.std.proofs.lemmas.Bool.Decides.{nat_tests}
-use Rattle.machine.specs.Machine.{State, Core}
+use Rattle.machine.specs.Machine.{State}
 use Rattle.sheet.specs.Accepted.{Accepted}
-use Rattle.sheet.specs.Codes.{has}
 use Rattle.sheet.specs.Plain.{PlainSheet}
-use Rattle.sheet.specs.Saved.{clobber_size_of, sets_up, setup_size}
-use Rattle.frame.specs.Pieces.{incoming_args_diff_of, stack_size_of}
-use Rattle.returns.specs.Premises.{clobbers_x, clobbers_v, need, Entry, Lawful, Leaves, Body}
+use Rattle.sheet.specs.Saved.{sets_up}
+use Rattle.returns.specs.Premises.{clobbers_x, clobbers_v, need}
 use Rattle.returns.specs.Witnesses.{Enterable, Clobberable}
 use Rattle.returns.proofs.Adjust.{tf, ft}
 use Rattle.returns.proofs.Laid.{slots_bytes, slots_few}

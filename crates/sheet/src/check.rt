@@ -9,7 +9,7 @@ ghost use Rattle.sheet.specs.Refused.{uneven, bad_sizes_of, bad_tail_of, winch_s
 ghost use Rattle.sheet.specs.Saved.{pairs};
 
 use crate::checked::CheckedSheet;
-use crate::codes::check_codes;
+use crate::clobbers::check_codes;
 use crate::key::select_api_key;
 use crate::reads::{read_calls, read_conv, read_flags};
 use crate::types::{CallConv, Flags, Sheet, Sizes};

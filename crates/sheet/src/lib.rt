@@ -3,7 +3,7 @@
 
 pub mod check;
 pub mod checked;
-mod codes;
+mod clobbers;
 pub mod key;
 mod reads;
 pub mod types;

@@ -10,7 +10,7 @@ returns-in-Some c =
 
 pub returns-then-is : goal.returns-then-is
 returns-then-is c =
-    seal_none c.args.list.now c.landing_pad-in-None.new.list c.unwind-then-is.last.list (plain c.args.layout.now.sheet)
+    seal_none c.args.list.now c.landing_pad-in-None.new.list c.unwind-then-is.new.list (plain c.args.layout.now.sheet)
     (select_api_key_of (plain c.args.layout.now.sheet)) c.in-None.ensures c.if-is.ensures c.landing_pad-in-None.ensures c.unwind-then-is.ensures
 
 pub returns-else-is : goal.returns-else-is

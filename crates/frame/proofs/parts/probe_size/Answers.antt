@@ -2,7 +2,7 @@ use Rattle.std.proofs.Common.{◌≤◌, arith}
 use Rattle.sheet.specs.Checks.{plain}
 use Rattle.frame.proofs.Sizes.{accepted_sheet, clobber_small, setup_small}
 use Rattle.frame.proofs.parts.probe_size.Goals as goal
-use Rattle.frame.proofs.parts.probe_size.Goals.{then_is, else_is}
+use Rattle.frame.proofs.parts.probe_size.Goals.{then-is, else-is}
 
 pub overflow_add-result : goal.overflow_add-result
 overflow_add-result c =
@@ -30,5 +30,5 @@ overflow_add-result-3 c =
     let e = c.stack_size.ensures in
     let t = setup_small (plain c.args.layout.now.sheet) in
     let u = c.args.layout.now.setup_rule in
-    let v : c.if-is.setup ≤ 16 = elim c.if-is.branch [ then_is w ↦ omega (arith, w.setup-is) | else_is w ↦ omega (arith, w.setup-is) ] in
+    let v : c.if-is.setup ≤ 16 = elim c.if-is.branch [ then-is w ↦ omega (arith, w.setup-is) | else-is w ↦ omega (arith, w.setup-is) ] in
     omega arith

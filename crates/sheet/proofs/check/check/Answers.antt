@@ -8,9 +8,9 @@ use Rattle.sheet.proofs.AcceptedSheets.{accepted}
 use Rattle.sheet.proofs.Rows.{codes_tell, late_tell, in_range, ranged}
 use Rattle.sheet.proofs.check.check.Goals as goal
 
-pub returns-in-err-clobbers : goal.returns-in-err-clobbers
-returns-in-err-clobbers c =
-    let e = err_from_is_err_and c.from-residual.result c.from-residual.ensures.1 in
+pub returns-in_err-clobbers : goal.returns-in_err-clobbers
+returns-in_err-clobbers c =
+    let e = err_from_is_err_and c.from_residual.result c.from_residual.ensures.1 in
     let p : PlainSheet = record {
       number = c.args.sheet.number;
       conv = c.in-Some.call_conv;
@@ -25,14 +25,14 @@ returns-in-err-clobbers c =
     let same : plain_of c.args.sheet ≡ p = cc in
     let dyn : c.read_flags-flags.result.dynamic_vector ≡ false = search rules in
     rw (e.1, e.2) (
-      in_range c.args.sheet p (Some (told c.in-err-clobbers.field-0.0)) range same
-          (codes_tell p (told c.in-err-clobbers.field-0.0) dyn c.in-err-clobbers.ensures.0),
+      in_range c.args.sheet p (Some (told c.in_err-clobbers.field-0.0)) range same
+          (codes_tell p (told c.in_err-clobbers.field-0.0) dyn c.in_err-clobbers.ensures.0),
       tt,
     )
 
-pub returns-in-err-check_late : goal.returns-in-err-check_late
-returns-in-err-check_late c =
-    let e = err_from_is_err_and c.from-residual-in-err-check_late.result c.from-residual-in-err-check_late.ensures.1 in
+pub returns-in_err-check_late : goal.returns-in_err-check_late
+returns-in_err-check_late c =
+    let e = err_from_is_err_and c.from_residual-in_err-check_late.result c.from_residual-in_err-check_late.ensures.1 in
     let p : PlainSheet = record {
       number = c.args.sheet.number;
       conv = c.in-Some.call_conv;
@@ -47,25 +47,25 @@ returns-in-err-check_late c =
     let same : plain_of c.args.sheet ≡ p = cc in
     let dyn : c.read_flags-flags.result.dynamic_vector ≡ false = search rules in
     rw (e.1, e.2) (
-      in_range c.args.sheet p (Some (told c.in-err-check_late.field-0.0)) range same
-          (late_tell p (Some (told c.in-err-check_late.field-0.0)) dyn c.in-ok-clobbers.ensures.0
-          (λ s h. (c.in-err-check_late.ensures s h).0)),
+      in_range c.args.sheet p (Some (told c.in_err-check_late.field-0.0)) range same
+          (late_tell p (Some (told c.in_err-check_late.field-0.0)) dyn c.in_ok-clobbers.ensures.0
+          (λ s h. (c.in_err-check_late.ensures s h).0)),
       tt,
     )
 
-pub invariant-of-result : goal.invariant-of-result
-invariant-of-result c =
+pub invariant_of-result : goal.invariant_of-result
+invariant_of-result c =
     let p : PlainSheet = record {
       number = c.args.sheet.number;
       conv = c.in-Some.call_conv;
       calls = c.in-Some-read_calls.function_calls;
       flags = c.read_flags-flags.result;
       sizes = c.args.sheet.sizes;
-      clobbers = items c.in-ok-clobbers.clobbers;
+      clobbers = items c.in_ok-clobbers.clobbers;
     } in
     let dyn : c.read_flags-flags.result.dynamic_vector ≡ false = search rules in
-    let k = c.in-ok-clobbers.ensures in
-    (ap is_some (late_tell p None dyn (rw k.1 k.0) (λ s h. (c.in-ok-check_late.ensures s h).0)), tt)
+    let k = c.in_ok-clobbers.ensures in
+    record { accepted = ap is_some (late_tell p None dyn (rw k.1 k.0) (λ s h. (c.in_ok-check_late.ensures s h).0)) }
 
 pub returns : goal.returns
 returns c =
@@ -75,13 +75,13 @@ returns c =
       calls = c.in-Some-read_calls.function_calls;
       flags = c.read_flags-flags.result;
       sizes = c.args.sheet.sizes;
-      clobbers = items c.in-ok-clobbers.clobbers;
+      clobbers = items c.in_ok-clobbers.clobbers;
     } in
     let a = c.in-Some.ensures in
     let b = c.in-Some-read_calls.ensures in
-    let k = c.in-ok-clobbers.ensures in
+    let k = c.in_ok-clobbers.ensures in
     let range : out_of_range c.args.sheet ≡ false = ranged c.args.sheet a.0 b.0 (omega arith) in
     let same : plain_of c.args.sheet ≡ p = cc in
     let dyn : c.read_flags-flags.result.dynamic_vector ≡ false = search rules in
-    let none = late_tell p None dyn (rw k.1 k.0) (λ s h. (c.in-ok-check_late.ensures s h).0) in
+    let none = late_tell p None dyn (rw k.1 k.0) (λ s h. (c.in_ok-check_late.ensures s h).0) in
     (in_range c.args.sheet p None range same none, (sym same, accepted p (ap is_some none)))

@@ -6,8 +6,8 @@ use Rattle.shelf.proofs.shelf.Shelf.cut_last.Goals as goal
 pub returns-then-n-eq0 : goal.returns-then-n-eq0
 returns-then-n-eq0 c = cut_none (vec_items c.args.self.now.entries) (search rules)
 
-pub invariant-of-self : goal.invariant-of-self
-invariant-of-self c = (
+pub invariant_of-self : goal.invariant_of-self
+invariant_of-self c = (
   search rules,
   (
     search rules,

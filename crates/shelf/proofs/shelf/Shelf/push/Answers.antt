@@ -7,8 +7,8 @@ insert_key-requires c =
     let m = keys_many (vec_items c.args.self.now.keys) (vec_items c.args.self.now.entries) c.args.self.now.indexed in
     search rules
 
-pub invariant-of-self : goal.invariant-of-self
-invariant-of-self c = (
+pub invariant_of-self : goal.invariant_of-self
+invariant_of-self c = (
   search rules,
   (
     search rules,

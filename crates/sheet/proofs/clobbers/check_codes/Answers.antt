@@ -3,7 +3,7 @@ use Rattle.std.proofs.lemmas.List.{take_more, take_all, length-take}
 use Rattle.std.proofs.lemmas.Bool.{lt-ltb}
 use Rattle.codes.specs.Items.{items}
 use Rattle.sheet.proofs.CodeSteps.{allowed_coded, kept_bad, kept_twice, kept_fits, kept_more, kept_all}
-use Rattle.sheet.proofs.codes.check_codes.Goals as goal
+use Rattle.sheet.proofs.clobbers.check_codes.Goals as goal
 
 pub returns-then-not-is_allowed : goal.returns-then-not-is_allowed
 returns-then-not-is_allowed c = (kept_bad _ _ _ _ _ c.loop-i.invariant.0 (omega arith) refl (search rules), tt)

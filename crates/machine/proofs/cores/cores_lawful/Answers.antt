@@ -1,5 +1,5 @@
 use Rattle.machine.proofs.Lawful.{each_core_lawful}
-use Rattle.machine.proofs.core.cores_lawful.Goals as goal
+use Rattle.machine.proofs.cores.cores_lawful.Goals as goal
 
 pub returns : goal.returns
 returns c = each_core_lawful

@@ -1,4 +1,3 @@
-pub mod Compacts
 pub mod Placing
 pub mod Puts
 pub mod Brings

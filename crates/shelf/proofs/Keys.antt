@@ -1,10 +1,10 @@
 -- Laws of the ordered keys.
-use Rattle.std.proofs.Common.{◌≡◌, ℕ, zero, suc, ◌+◌, ◌-◌, ◌<◌, ◌≤◌, Bool, true, false, cond, eqb, ltb, List, [], ◌∷◌, ◌++◌, length, get_or, take, drop, Some, None, Option, Less, Equal, Greater, sym, refl, ap, ◌∙◌, subst, append_assoc, append-nil, add-one, arith}
+use Rattle.std.proofs.Common.{◌≡◌, ℕ, zero, suc, ◌+◌, ◌<◌, ◌≤◌, Bool, true, false, cond, eqb, ltb, List, [], ◌∷◌, ◌++◌, length, get_or, take, drop, Some, None, Option, Less, Equal, Greater, sym, refl, ap, ◌∙◌, subst, append_assoc, append-nil, add-one, arith}
 use Rattle.std.specs.List.{remove, AllByRecursion as All}
 use Rattle.std.specs.Ordering.{is_lt}
-use Rattle.std.proofs.ByRecursion.{All-get_or, All-drop, All-weaker}
+use Rattle.std.proofs.ByRecursion.{All-weaker}
 use Rattle.std.proofs.lemmas.List.{drop_more, drop_all, take_more, take_all, length_push, length-map, length-take-le, map_push, take_at}
-use Rattle.std.proofs.lemmas.Bool.{ltb-true, ltb-false, cond-true, cond-false, eq-eqb, ne_eqb, eqb-true, eqb-false, true≢false}
+use Rattle.std.proofs.lemmas.Bool.{ltb-true, ltb-false, cond-true, cond-false, eq-eqb, ne_eqb, eqb-true}
 use Rattle.order.specs.Placed.{below, placed, InOrder}
 use Rattle.order.proofs.Stays.{stays, length_placed}
 use Rattle.shelf.specs.Index.{key_order, insert_key_of, cut_slot, look_in, key_at, index_from, index_of}

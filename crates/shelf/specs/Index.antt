@@ -1,20 +1,13 @@
 -- Function numbers, each with its slot, in ascending order as they grow.
-use Rattle.std.specs.Prelude.{◌≡◌, ℕ, ◌+◌, ◌<◌, cond, List, [], ◌∷◌, Some, None, Option, ◌==◌}
-use Rattle.std.specs.declared.cmp.Ordering.{Ordering}
-use Rattle.std.specs.Cmp.{IsTotalOrder, nat_cmp_total}
-use Rattle.std.specs.Ordering.{MatchOrdering, nat_cmp}
+use Rattle.std.specs.Prelude.{ℕ, ◌+◌, cond, List, [], ◌∷◌, Some, None, Option, ◌==◌}
+use Rattle.std.specs.Cmp.{IsTotalOrder, nat_cmp_total, on_total}
+use Rattle.std.specs.Ordering.{nat_cmp, on}
 use Rattle.order.specs.Placed.{below, placed}
 use Rattle.shelf.specs.declared.key.Key.{Key}
 
 -- Keys go by their numbers.
-abbrev pub key_order : IsTotalOrder (λ (a b : Key) (r : Ordering). MatchOrdering r (a.number < b.number) (a.number ≡ b.number) (b.number < a.number))
-key_order = record {
-  cmp = λ x y. nat_cmp x.number y.number;
-  says = λ x y. nat_cmp_total.says x.number y.number;
-  flip = λ x y. nat_cmp_total.antisymm x.number y.number;
-  trans = λ x y z. nat_cmp_total.trans x.number y.number z.number;
-  alike = λ x y z. nat_cmp_total.congr x.number y.number z.number;
-}
+abbrev pub key_order : IsTotalOrder (on (λ (k : Key). k.number) nat_cmp)
+key_order = on_total (λ (k : Key). k.number) nat_cmp_total
 
 -- A key put in its place.
 abbrev pub insert_key_of : List Key → Key → List Key

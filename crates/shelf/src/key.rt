@@ -1,22 +1,24 @@
 // A function's number with its slot. Keys go by their numbers.
-ghost use Rattle.std.specs.Prelude.{◌≡◌, ◌<◌, IsSomeAnd, Some, refl};
-ghost use Rattle.std.specs.Ordering.{MatchOrdering, nat_cmp};
+ghost use Rattle.std.specs.Ordering.{nat_cmp, on, as_partial_cmp};
 ghost use Rattle.std.specs.Cmp.Rules.{comparing};
 ghost use Rattle.std.proofs.Common.{rules};
-ghost use Rattle.std.specs.Cmp.{partial_order_from_agreeing_total};
+ghost use Rattle.std.specs.Cmp.{partial_order_from_own_ties};
 
 use std::cmp::Ordering;
 
-#[derive(Clone, Copy, PartialEq, Eq)]
+// Two keys are equal where their numbers are, as their order has it.
+#[derive(Clone, Copy)]
+#[derive_where(PartialEq, Eq)]
 pub struct Key {
     pub number: u32,
+    #[derive_where(skip(EqHashOrd))]
     pub slot: usize,
 }
 
 impl PartialOrd for Key {
-    ghost partial_cmp = { λ a b. Some (nat_cmp a.number b.number) };
+    ghost partial_cmp = { as_partial_cmp (on (λ k. k.number) nat_cmp) };
 
-    ghost laws = { partial_order_from_agreeing_total (λ a b. nat_cmp a.number b.number) (Prim.search (comparing, rules)) (λ _ _. refl) (Prim.search (comparing, rules)) };
+    ghost laws = { partial_order_from_own_ties (Prim.search (comparing, rules)) (Prim.search (comparing, rules)) };
 
     fn partial_cmp(&self, other: &Key) -> Option<Ordering> {
         Some(self.cmp(other))
@@ -24,7 +26,7 @@ impl PartialOrd for Key {
 }
 
 impl Ord for Key {
-    ghost cmp = { λ a b. nat_cmp a.number b.number };
+    ghost cmp = { on (λ k. k.number) nat_cmp };
 
     ghost total = { Prim.search (comparing, rules) };
 

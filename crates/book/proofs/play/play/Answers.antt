@@ -18,4 +18,4 @@ loop-call-preserved g c = (
 
 pub returns : goal.returns
 returns g c =
-    right (priced g.InstPrice.Price.units g.NotePrice.Price.units) _ _ _ c.args.calls.now c.loop-call.call-index _ (c.loop-call.invariant.0 _ c.in_ok-book.ensures) c.loop-call-test.false
+    right (priced g.S.InstPrice.Price.units g.S.NotePrice.Price.units) _ _ _ c.args.calls.now c.loop-call.call-index _ (c.loop-call.invariant.0 _ c.in_ok-book.ensures) c.loop-call-test.false

@@ -6,13 +6,13 @@ use Rattle.book.proofs.puts.put_words.Goals as goal
 
 pub returns-in_err-put_inst : goal.returns-in_err-put_inst
 returns-in_err-put_inst g c =
-    let f = word_fits (priced g.InstPrice.Price.units g.NotePrice.Price.units) _ _ c.args.words.now c.loop-w.w-index c.loop-w-test.true c.loop-w.invariant c.requires in
+    let f = word_fits (priced g.S.InstPrice.Price.units g.S.NotePrice.Price.units) _ _ c.args.words.now c.loop-w.w-index c.loop-w-test.true c.loop-w.invariant c.requires in
     absurd (not_refused c.decode.result _ _ _ (_, c.decode.ensures.reads) f c.in_err-put_inst.ensures.1)
 
 pub loop-w-preserved : goal.loop-w-preserved
 loop-w-preserved g c =
-    word_more (priced g.InstPrice.Price.units g.NotePrice.Price.units) _ _ _ c.args.words.now c.loop-w.w-index _ c.decode.result c.loop-w-test.true c.loop-w.invariant c.decode.ensures.reading c.in_ok-put_inst.ensures.2
+    word_more (priced g.S.InstPrice.Price.units g.S.NotePrice.Price.units) _ _ _ c.args.words.now c.loop-w.w-index _ c.decode.result c.loop-w-test.true c.loop-w.invariant c.decode.ensures.reading c.in_ok-put_inst.ensures.2
 
 pub returns : goal.returns
 returns g c =
-    word_all (priced g.InstPrice.Price.units g.NotePrice.Price.units) _ _ c.args.words.now c.loop-w.w-index c.loop-w-test.false c.loop-w.invariant
+    word_all (priced g.S.InstPrice.Price.units g.S.NotePrice.Price.units) _ _ c.args.words.now c.loop-w.w-index c.loop-w-test.false c.loop-w.invariant

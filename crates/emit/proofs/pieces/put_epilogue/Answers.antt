@@ -7,6 +7,6 @@ use Rattle.emit.proofs.pieces.put_epilogue.Goals as goal
 
 pub returns : goal.returns
 returns g c =
-    put_piece (record { inst = g.InstPrice.Price.units; note = g.NotePrice.Price.units }) (g.S.Sink.held c.args.sink.now) (g.S.Sink.held c.put_items.new.sink) c.put_items.result
+    put_piece (record { inst = g.S.InstPrice.Price.units; note = g.S.NotePrice.Price.units }) (g.S.Sink.held c.args.sink.now) (g.S.Sink.held c.put_items.new.sink) c.put_items.result
     c.new-list.result c.list_epilogue.new.list c.as_slice.result.now (epilogue (plain c.args.layout.now.sheet)) 113 (epilogue_good (plain c.args.layout.now.sheet)) (omega arith)
     c.new-list.ensures c.list_epilogue.ensures c.as_slice.ensures c.put_items.ensures

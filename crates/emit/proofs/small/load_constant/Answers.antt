@@ -8,6 +8,6 @@ use Rattle.emit.proofs.small.load_constant.Goals as goal
 pub returns : goal.returns
 returns g c =
     let s = constant_short c.args.rd c.args.value in
-    put_exact (record { inst = g.InstPrice.Price.units; note = g.NotePrice.Price.units }) (g.S.Sink.held c.args.sink.now) (g.S.Sink.held c.put_items.new.sink) c.put_items.result
+    put_exact (record { inst = g.S.InstPrice.Price.units; note = g.S.NotePrice.Price.units }) (g.S.Sink.held c.args.sink.now) (g.S.Sink.held c.put_items.new.sink) c.put_items.result
     c.new-list.result c.load_constant.new.list c.as_slice.result.now (code (load_constant_of c.args.rd c.args.value))
     c.new-list.ensures c.load_constant.ensures (omega arith) c.as_slice.ensures c.put_items.ensures

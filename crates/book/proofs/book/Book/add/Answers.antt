@@ -14,9 +14,9 @@ pub returns-in_err-checked : goal.returns-in_err-checked
 returns-in_err-checked g c =
     let e = err_from_is_err_and c.from-residual.result c.from-residual.ensures.1 in
     record {
-      moves = λ r fs s. add_bad_as (priced g.InstPrice.Price.units g.NotePrice.Price.units) r _ _ fs c.args.sheet c.args.body.now c.from-residual.result e.0 _ e.1 e.2 s c.in_err-checked.ensures.0;
+      moves = λ r fs s. add_bad_as (priced g.S.InstPrice.Price.units g.S.NotePrice.Price.units) r _ _ fs c.args.sheet c.args.body.now c.from-residual.result e.0 _ e.1 e.2 s c.in_err-checked.ensures.0;
       refused = kept_err c.from-residual.result _ (refl, refl);
-      claims = λ k fs s. claimed (priced g.InstPrice.Price.units g.NotePrice.Price.units) k _ _ fs s;
+      claims = λ k fs s. claimed (priced g.S.InstPrice.Price.units g.S.NotePrice.Price.units) k _ _ fs s;
     }
 
 pub returns-in_err-entry : goal.returns-in_err-entry
@@ -24,9 +24,9 @@ returns-in_err-entry g c =
     let e = err_from_is_err_and c.from-residual-in_err-entry.result c.from-residual-in_err-entry.ensures.1 in
     let k = c.in_ok-checked.ensures in
     record {
-      moves = λ r fs s. add_refused_as (priced g.InstPrice.Price.units g.NotePrice.Price.units) r _ _ fs c.args.sheet (plain c.in_ok-checked.checked) c.args.body.now c.from-residual-in_err-entry.result e.0 _ e.1 e.2 s k.0 k.1.0 c.in_err-entry.ensures.0;
+      moves = λ r fs s. add_refused_as (priced g.S.InstPrice.Price.units g.S.NotePrice.Price.units) r _ _ fs c.args.sheet (plain c.in_ok-checked.checked) c.args.body.now c.from-residual-in_err-entry.result e.0 _ e.1 e.2 s k.0 k.1.0 c.in_err-entry.ensures.0;
       refused = kept_err c.from-residual-in_err-entry.result _ (refl, refl);
-      claims = λ k fs s. claimed (priced g.InstPrice.Price.units g.NotePrice.Price.units) k _ _ fs s;
+      claims = λ k fs s. claimed (priced g.S.InstPrice.Price.units g.S.NotePrice.Price.units) k _ _ fs s;
     }
 
 pub put_function-requires : goal.put_function-requires
@@ -36,9 +36,9 @@ put_function-requires g c =
     let b = c.as_slice-4.ensures ∙ c.items_of-epilogue.ensures.items in (
       subst AllRead (sym a) c.items_of-prologue.ensures.read,
       subst AllRead (sym b) c.items_of-epilogue.ensures.read,
-      fits_by (priced g.InstPrice.Price.units g.NotePrice.Price.units) _ (plain c.in_ok-checked.checked) c.args.body.now _ _
+      fits_by (priced g.S.InstPrice.Price.units g.S.NotePrice.Price.units) _ (plain c.in_ok-checked.checked) c.args.body.now _ _
           (a ∙ ap (λ (x : CheckedSheet). prologue (plain x)) same) (b ∙ ap (λ (x : CheckedSheet). epilogue (plain x)) same)
-          (none_fits (priced g.InstPrice.Price.units g.NotePrice.Price.units) (g.S.Sink.held c.args.self.now.sink) _ (fun (plain c.in_ok-checked.checked) c.args.body.now) c.in_ok-entry.ensures.0),
+          (none_fits (priced g.S.InstPrice.Price.units g.S.NotePrice.Price.units) (g.S.Sink.held c.args.self.now.sink) _ (fun (plain c.in_ok-checked.checked) c.args.body.now) c.in_ok-entry.ensures.0),
     )
 
 pub returns : goal.returns
@@ -50,10 +50,10 @@ returns g c =
     let e = c.in_ok-entry.ensures in
     record {
       moves = λ r fs s.
-          add_done (priced g.InstPrice.Price.units g.NotePrice.Price.units) r (g.S.Sink.held c.args.self.now.sink) _ _ _ fs c.args.sheet (plain c.in_ok-checked.checked) c.args.body.now c.in_ok-entry.entry c.len-slot.result c.push.result _ _
+          add_done (priced g.S.InstPrice.Price.units g.S.NotePrice.Price.units) r (g.S.Sink.held c.args.self.now.sink) _ _ _ fs c.args.sheet (plain c.in_ok-checked.checked) c.args.body.now c.in_ok-entry.entry c.len-slot.result c.push.result _ _
           s k.0 k.1.0 k.1.1 e.0
           (a ∙ ap (λ (x : CheckedSheet). prologue (plain x)) same) (b ∙ ap (λ (x : CheckedSheet). epilogue (plain x)) same)
           c.in_ok-put_function.ensures e.1 c.push.ensures.answer c.push.ensures.list c.len-slot.ensures;
       refused = tt;
-      claims = λ k fs s. claimed (priced g.InstPrice.Price.units g.NotePrice.Price.units) k _ _ fs s;
+      claims = λ k fs s. claimed (priced g.S.InstPrice.Price.units g.S.NotePrice.Price.units) k _ _ fs s;
     }

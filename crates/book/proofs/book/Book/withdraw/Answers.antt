@@ -8,28 +8,28 @@ use Rattle.book.proofs.book.Book.withdraw.Goals as goal
 pub returns-in_default : goal.returns-in_default
 returns-in_default g c = record {
   moves = λ r fs s.
-      let n = none_held (priced g.InstPrice.Price.units g.NotePrice.Price.units) r _ _ fs s c.in_default.ensures in
+      let n = none_held (priced g.S.InstPrice.Price.units g.S.NotePrice.Price.units) r _ _ fs s c.in_default.ensures in
       (ap (λ (t : Told). Err t) c.empty_book.ensures ∙ n.0, n.1);
   refused = (refl, refl);
-  claims = λ k fs s. claimed (priced g.InstPrice.Price.units g.NotePrice.Price.units) k _ _ fs s;
+  claims = λ k fs s. claimed (priced g.S.InstPrice.Price.units g.S.NotePrice.Price.units) k _ _ fs s;
 }
 
 pub returns-in_err-rewind : goal.returns-in_err-rewind
 returns-in_err-rewind g c = record {
   moves = λ r fs s.
-      let n = rewinds (priced g.InstPrice.Price.units g.NotePrice.Price.units) r _ _ fs c.in-Some.last s c.in-Some.ensures in
+      let n = rewinds (priced g.S.InstPrice.Price.units g.S.NotePrice.Price.units) r _ _ fs c.in-Some.last s c.in-Some.ensures in
       let e = c.in_err-rewind.ensures.0 in
       let z : ◌≡◌ {A = ℕ} 0 1 = cc in
       absurd (omega arith);
   refused = search rules;
-  claims = λ k fs s. claimed (priced g.InstPrice.Price.units g.NotePrice.Price.units) k _ _ fs s;
+  claims = λ k fs s. claimed (priced g.S.InstPrice.Price.units g.S.NotePrice.Price.units) k _ _ fs s;
 }
 
 pub returns : goal.returns
 returns g c = record {
   moves = λ r fs s.
-      withdrew (priced g.InstPrice.Price.units g.NotePrice.Price.units) r _ _ _ _ fs c.in-Some.last s c.in-Some.ensures
+      withdrew (priced g.S.InstPrice.Price.units g.S.NotePrice.Price.units) r _ _ _ _ fs c.in-Some.last s c.in-Some.ensures
       c.in_ok-rewind.ensures.1 c.cut_last.ensures;
   refused = tt;
-  claims = λ k fs s. claimed (priced g.InstPrice.Price.units g.NotePrice.Price.units) k _ _ fs s;
+  claims = λ k fs s. claimed (priced g.S.InstPrice.Price.units g.S.NotePrice.Price.units) k _ _ fs s;
 }

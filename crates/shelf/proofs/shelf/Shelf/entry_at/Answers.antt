@@ -1,4 +1,4 @@
-use Rattle.std.proofs.Common.{◌≡◌, vec_items, sym, rules}
+use Rattle.std.proofs.Common.{vec_items, sym, rules}
 use Rattle.shelf.proofs.Items.{item_at_is, item_past}
 use Rattle.shelf.proofs.shelf.Shelf.entry_at.Goals as goal
 

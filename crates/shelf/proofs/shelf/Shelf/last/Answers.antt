@@ -1,4 +1,4 @@
-use Rattle.std.proofs.Common.{◌≡◌, ℕ, ◌-◌, length, vec_items, sym, ap, ◌∙◌, rules}
+use Rattle.std.proofs.Common.{◌≡◌, ◌-◌, length, vec_items, sym, ap, ◌∙◌, rules}
 use Rattle.shelf.specs.Slots.{item_at}
 use Rattle.shelf.proofs.Items.{last_none}
 use Rattle.shelf.proofs.shelf.Shelf.last.Goals as goal

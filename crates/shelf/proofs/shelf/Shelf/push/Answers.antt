@@ -1,4 +1,4 @@
-use Rattle.std.proofs.Common.{vec_items, arith, rules}
+use Rattle.std.proofs.Common.{vec_items, rules}
 use Rattle.shelf.proofs.Keys.{keys_many, keys_push}
 use Rattle.shelf.proofs.shelf.Shelf.push.Goals as goal
 
@@ -8,16 +8,10 @@ insert_key-requires c =
     search rules
 
 pub invariant_of-self : goal.invariant_of-self
-invariant_of-self c = (
-  search rules,
-  (
-    search rules,
-    (
-      search rules,
-      (
-        keys_push (vec_items c.args.self.now.keys) _ (vec_items c.args.self.now.entries) _ _ _ c.args.self.now.indexed (search rules) c.push_reserved.ensures.items c.insert_key.ensures.items,
-        tt,
-      ),
-    ),
-  ),
-)
+invariant_of-self c = record {
+  entries_fit = search rules;
+  keys_fit = search rules;
+  few = search rules;
+  indexed =
+      keys_push (vec_items c.args.self.now.keys) _ (vec_items c.args.self.now.entries) _ _ _ c.args.self.now.indexed (search rules) c.push_reserved.ensures.items c.insert_key.ensures.items;
+}

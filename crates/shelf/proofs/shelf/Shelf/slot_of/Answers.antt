@@ -1,8 +1,7 @@
-use Rattle.std.proofs.Common.{◌≡◌, List, vec_items, sym, ap, ◌∙◌, subst}
+use Rattle.std.proofs.Common.{vec_items, sym, ap, ◌∙◌, subst}
 use Rattle.order.specs.Placed.{InOrder, below}
-use Rattle.shelf.specs.Index.{key_order, look_in, index_of}
+use Rattle.shelf.specs.Index.{key_order, look_in}
 use Rattle.shelf.specs.Slots.{numbers_of}
-use Rattle.shelf.specs.declared.key.Key.{Key}
 use Rattle.shelf.proofs.Keys.{in_order, looks}
 use Rattle.shelf.proofs.shelf.Shelf.slot_of.Goals as goal
 

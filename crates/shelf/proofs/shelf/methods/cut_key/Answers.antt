@@ -1,4 +1,4 @@
-use Rattle.std.proofs.Common.{◌≡◌, vec_items, sym, refl, ap, ◌∙◌, arith, rules}
+use Rattle.std.proofs.Common.{vec_items, sym, ◌∙◌, rules}
 use Rattle.shelf.proofs.Keys.{cut_found, cut_next, cut_end}
 use Rattle.shelf.proofs.shelf.methods.cut_key.Goals as goal
 

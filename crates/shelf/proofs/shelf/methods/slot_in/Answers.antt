@@ -1,4 +1,4 @@
-use Rattle.std.proofs.Common.{◌≡◌, sym, ◌∙◌}
+use Rattle.std.proofs.Common.{sym, ◌∙◌}
 use Rattle.shelf.proofs.Keys.{look_here, look_on, look_end, look_stop}
 use Rattle.shelf.proofs.shelf.methods.slot_in.Goals as goal
 

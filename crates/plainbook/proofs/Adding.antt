@@ -175,7 +175,7 @@ added p r h h' es es' fs sh f e k s n q acc hh ee le ke =
 
 pub entry_is : (s : PlainSheet) (ws : List ℕ) (i n i' n' a b m : ℕ) → i ≡ i' → n ≡ n' → a ≡ length (insts_in (prologue s)) → b ≡ length (insts_in (epilogue s)) →
     m ≡ marks_in (items_of (fun s ws)) →
-    ◌≡◌ {A = PlainEntry} (record { sheet = s; start = i; notes_start_of = n; prologue = a; body = length ws; epilogue = b; notes = m }) (entry_of i' n' (fun s ws))
+    ◌≡◌ {A = PlainEntry} (record { sheet = s; start = i; notes_start = n; prologue = a; body = length ws; epilogue = b; notes = m }) (entry_of i' n' (fun s ws))
 entry_is s ws i n i' n' a b m ie ne ae be me = cc
 
 pushed : (b : Bool) (es es' : List Entry) (e : Entry) → b ≡ ltb (length es) function_count → es' ≡ cond b (es ++ e ∷ []) es → length (numbers_of es) < function_count →

@@ -139,9 +139,9 @@ notes_of n f =
     ∙ append-nil (notes_from n (prologue f.sheet))
 
 -- the function's own part of the notes
-own_notes : (p : Prices) (r : ℕ) (h : Held) (es : List Listed) (fs : List Fun) (f : Fun) (start from : ℕ) → Stands p r h es fs → HeldAt fs f start from →
+own_notes_are : (p : Prices) (r : ℕ) (h : Held) (es : List Listed) (fs : List Fun) (f : Fun) (start from : ℕ) → Stands p r h es fs → HeldAt fs f start from →
     own_notes h.notes f from ≡ notes_from start (prologue f.sheet)
-own_notes p r h es fs f start from s w =
+own_notes_are p r h es fs f start from s w =
     let n0 : h.notes ≡ notes_from 0 (all_items fs) = ap (λ (t : Held). t.notes) s.means in
     let n1 : notes_from 0 (all_items fs) ≡ notes_from 0 (all_items w.front) ++ notes_from (0 + length (insts_in (all_items w.front))) (items_of f ++ all_items w.rest) =
     ap (notes_from 0) (split_items fs w.front w.rest f w.split) ∙ notes_append 0 (all_items w.front) (items_of f ++ all_items w.rest) in
@@ -185,7 +185,7 @@ pub claimed : (p : Prices) (r : ℕ) (h : Held) (es : List Listed) (fs : List Fu
     (f : Fun) (start from : ℕ) → HeldAt fs f start from → Claimed h f start from
 claimed p r h es fs s f start from w =
     let st : StandsIn h.insts (placed f start) = stands_in p r h es fs f start from s w in
-    let own : own_notes h.notes f from ≡ notes_from start (prologue f.sheet) = own_notes p r h es fs f start from s w in
+    let own : own_notes h.notes f from ≡ notes_from start (prologue f.sheet) = own_notes_are p r h es fs f start from s w in
     record {
       stands = st;
       returns = returns_in h.insts (placed f start) st;
@@ -237,7 +237,7 @@ shown p r h es fs k o s oe = go (item_at fs k) refl
         ∙ ap (item_at (entries_from 0 0 (w.0 ++ f ∷ w.1))) (sym w.3) ∙ entry_of_slot 0 0 w.0 f w.1 in
         let x = item_map es k _ q in
         let a : x.0.start ≡ 0 + length (insts_in (all_items w.0)) = ap (λ (y : PlainEntry). y.start) x.2 in
-        let b : x.0.notes_start ≡ 0 + marks_in (all_items w.0) = ap (λ (y : PlainEntry). y.notes_start_of) x.2 in (
+        let b : x.0.notes_start ≡ 0 + marks_in (all_items w.0) = ap (λ (y : PlainEntry). y.notes_start) x.2 in (
           x.0,
           oe ∙ x.1,
           x.2 ∙ ap (λ (i : ℕ). entry_of i (0 + marks_in (all_items w.0)) f) (sym a) ∙ ap (λ (n : ℕ). entry_of x.0.start n f) (sym b),

@@ -121,7 +121,7 @@ ends_late p r h es q f e s =
     let l : late (with_items p (meant p r q) (items_of f)) (length (insts_in (all_items q))) (length (notes_from 0 (all_items q))) ≡ None =
     late_with p (meant p r q) (items_of f) ns in
     let a : e.start ≡ length (insts_in (all_items q)) = ap (λ (y : PlainEntry). y.start) s.entry in
-    let mk : e.notes_start ≡ length (notes_from 0 (all_items q)) = ap (λ (y : PlainEntry). y.notes_start_of) s.entry ∙ sym ln in
+    let mk : e.notes_start ≡ length (notes_from 0 (all_items q)) = ap (λ (y : PlainEntry). y.notes_start) s.entry ∙ sym ln in
     ap (λ (k : Held). late k e.start e.notes_start) s.means
     ∙ ap (λ (k : ℕ). late (with_items p (meant p r q) (items_of f)) k e.notes_start) a
     ∙ ap (λ (k : ℕ). late (with_items p (meant p r q) (items_of f)) (length (insts_in (all_items q))) k) mk
@@ -134,7 +134,7 @@ ends_back p r h es q f e s =
     let ln : length (notes_from 0 (all_items q)) ≡ marks_in (all_items q) = length_notes 0 (all_items q) in
     let l = rewound_with p (meant p r q) (items_of f) (omega arith) in
     let a : e.start ≡ length (insts_in (all_items q)) = ap (λ (y : PlainEntry). y.start) s.entry in
-    let mk : e.notes_start ≡ length (notes_from 0 (all_items q)) = ap (λ (y : PlainEntry). y.notes_start_of) s.entry ∙ sym ln in
+    let mk : e.notes_start ≡ length (notes_from 0 (all_items q)) = ap (λ (y : PlainEntry). y.notes_start) s.entry ∙ sym ln in
     ap (λ (k : Held). rewound p k e.start e.notes_start) s.means
     ∙ ap (λ (k : ℕ). rewound p (with_items p (meant p r q) (items_of f)) k e.notes_start) a
     ∙ ap (λ (k : ℕ). rewound p (with_items p (meant p r q) (items_of f)) (length (insts_in (all_items q))) k) mk

@@ -19,12 +19,12 @@ use Rattle.plainbook.specs.declared.calls.Call.{Call}
 use Rattle.plainbook.specs.declared.calls.Answer.{Answer}
 
 -- f is held, after so many instructions and so many notes of the functions before it.
-pub record HeldAt (fs : List Fun) (f : Fun) (start notesStart : ℕ) : Type 0 where
+pub record HeldAt (fs : List Fun) (f : Fun) (start notes_start : ℕ) : Type 0 where
   pub front : List Fun
   pub rest : List Fun
   pub split : fs ≡ front ++ f ∷ rest
   pub place : start ≡ length (insts_in (all_items front))
-  pub notes_place : notesStart ≡ marks_in (all_items front)
+  pub notes_place : notes_start ≡ marks_in (all_items front)
 
 -- The function at its place in the code.
 abbrev pub placed : Fun → ℕ → Placed
@@ -32,7 +32,7 @@ placed f start = record { sheet = f.sheet; words = map reading_of f.body; place 
 
 -- The function's own part of the notes.
 abbrev pub own_notes : List Note → Fun → ℕ → List Note
-own_notes notes f notes_start_of = take (marks_in (items_of f)) (drop notesStart notes)
+own_notes notes f notes_start = take (marks_in (items_of f)) (drop notes_start notes)
 
 -- From every entry state, on every lawful core, the prologue comes to its end; and whatever lawful body runs from there, the epilogue returns to
 -- the entry LR, with everything back.
@@ -77,7 +77,7 @@ FramedIn notes g =
     g.sheet.flags.unwind_info ≡ true → sets_up g.sheet ≡ true → (total pushes notes ≡ 1) × (total defines notes ≡ 1)
 
 -- What is claimed of a held function.
-pub record Claimed (h : Held) (f : Fun) (start notesStart : ℕ) : Type 0 where
+pub record Claimed (h : Held) (f : Fun) (start notes_start : ℕ) : Type 0 where
   -- it stands in the code, so that trees may call it
   pub stands : StandsIn h.insts (placed f start)
   -- (a) it returns, with everything back
@@ -86,13 +86,13 @@ pub record Claimed (h : Held) (f : Fun) (start notesStart : ℕ) : Type 0 where
   -- (b) and so do the trees of calls that it is the root of
   pub trees : TreesIn h.insts (placed f start)
   -- (c) its notes tell the truth
-  pub notes : NotesIn h.insts (own_notes h.notes f notesStart) (placed f start)
-  pub once : OnceIn (own_notes h.notes f notesStart) (placed f start)
-  pub framed : FramedIn (own_notes h.notes f notesStart) (placed f start)
+  pub notes : NotesIn h.insts (own_notes h.notes f notes_start) (placed f start)
+  pub once : OnceIn (own_notes h.notes f notes_start) (placed f start)
+  pub framed : FramedIn (own_notes h.notes f notes_start) (placed f start)
 
 -- The claims hold of every function of a list.
 abbrev pub AllClaimed : Held → List Fun → Type 0
-AllClaimed h fs = (f : Fun) (start notesStart : ℕ) → HeldAt fs f start notesStart → Claimed h f start notesStart
+AllClaimed h fs = (f : Fun) (start notes_start : ℕ) → HeldAt fs f start notes_start → Claimed h f start notes_start
 
 -- What is listed at a slot, where the plain book has a function or none there: nothing, or the function's entry, and then the claims hold of it.
 abbrev pub Shown : Held → Option Fun → Option Listed → Type 0

@@ -14,7 +14,7 @@ use Rattle.plainbook.specs.Plain.{Fun, items_of, all_items, meant}
 pub record PlainEntry : Type 0 where
   pub sheet : PlainSheet
   pub start : ℕ
-  pub notes_start_of : ℕ
+  pub notes_start : ℕ
   pub prologue : ℕ
   pub body : ℕ
   pub epilogue : ℕ
@@ -25,7 +25,7 @@ abbrev pub plain_entry : Entry → PlainEntry
 plain_entry e = record {
   sheet = plain e.sheet;
   start = e.start;
-  notes_start_of = e.notes_start;
+  notes_start = e.notes_start;
   prologue = e.prologue;
   body = e.body;
   epilogue = e.epilogue;
@@ -37,7 +37,7 @@ abbrev pub entry_of : ℕ → ℕ → Fun → PlainEntry
 entry_of i n f = record {
   sheet = f.sheet;
   start = i;
-  notes_start_of = n;
+  notes_start = n;
   prologue = length (insts_in (prologue f.sheet));
   body = length f.body;
   epilogue = length (insts_in (epilogue f.sheet));

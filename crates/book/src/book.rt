@@ -164,7 +164,7 @@ impl<S: Sink> Book<S> {
 impl<S: Sink + Drop> Book<S> {
     // A book with nothing in it, over a sink that is rewound to nothing. Want of memory hands the sink back.
     pub fn new(heap: Global, sink: S) -> Result<Book<S>, AllocFailed<S>>
-        ensures { MatchResult result (λ b. Stands (priced S.InstPrice.Price.units S.NotePrice.Price.units) (fed (priced S.InstPrice.Price.units S.NotePrice.Price.units) (S.held sink)) (held b.sink) (listed b.shelf) []) (λ e. e.value ≡ sink) }
+        ensures { MatchResult result (λ b. Stands (priced S.InstPrice.Price.units S.NotePrice.Price.units) (fed (priced S.InstPrice.Price.units S.NotePrice.Price.units) (S.held sink)) (S.held b.sink) (listed b.shelf) []) (λ e. e.value ≡ sink) }
     {
         let shelf = match Shelf::new(heap) {
             Ok(s) => s,

@@ -40,7 +40,7 @@ pub fn play<S: Sink + Drop>(
     sink: S,
     calls: &[Call],
 ) -> Result<Played<S>, AllocFailed<S>>
-    ensures { MatchResult result (λ b. Right (priced S.InstPrice.Price.units S.NotePrice.Price.units) (S.held sink) (held b.book.sink) (listed b.book.shelf) calls.now b.answers.items) (λ e. e.value ≡ sink) }
+    ensures { MatchResult result (λ b. Right (priced S.InstPrice.Price.units S.NotePrice.Price.units) (S.held sink) (S.held b.book.sink) (listed b.book.shelf) calls.now b.answers.items) (λ e. e.value ≡ sink) }
 {
     let mut answers = match Vec::with_capacity(heap, calls.len()) {
         Ok(v) => v,

@@ -36,9 +36,9 @@ pub(crate) fn put_function<S: Sink>(
     body: &[u32],
     epilogue: &[Item],
 ) -> Result<(), Refusal>
-    requires all_read { AllRead prologue.now }
-    requires all_read_2 { AllRead epilogue.now }
-    requires epilogue_bound { cost_of (priced S.InstPrice.Price.units S.NotePrice.Price.units) (prologue.now ++ (body_of body.now ++ epilogue.now)) ≤ (S.held sink.old).room }
+    requires prologue_read { AllRead prologue.now }
+    requires epilogue_read { AllRead epilogue.now }
+    requires fits { cost_of (priced S.InstPrice.Price.units S.NotePrice.Price.units) (prologue.now ++ (body_of body.now ++ epilogue.now)) ≤ (S.held sink.old).room }
     ensures { MatchResult result (λ _. S.held sink.new ≡ with_items (priced S.InstPrice.Price.units S.NotePrice.Price.units) (S.held sink.old) (prologue.now ++ (body_of body.now ++ epilogue.now))) (λ _. ⊥) }
 {
     put_part(sink, prologue)?;

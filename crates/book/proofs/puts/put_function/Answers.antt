@@ -5,17 +5,17 @@ use Rattle.book.proofs.puts.put_function.Goals as goal
 
 pub returns-in_err-put_part : goal.returns-in_err-put_part
 returns-in_err-put_part g c =
-    let f = first_fits (priced g.S.InstPrice.Price.units g.S.NotePrice.Price.units) _ c.args.prologue.now (body_of c.args.body.now) c.args.epilogue.now c.requires.2 in
+    let f = first_fits (priced g.S.InstPrice.Price.units g.S.NotePrice.Price.units) _ c.args.prologue.now (body_of c.args.body.now) c.args.epilogue.now c.requires.fits in
     let l = c.in_err-put_part.ensures.0 in
     absurd (omega arith)
 
 pub put_words-requires : goal.put_words-requires
 put_words-requires g c =
-    second_fits (priced g.S.InstPrice.Price.units g.S.NotePrice.Price.units) _ _ c.args.prologue.now (body_of c.args.body.now) c.args.epilogue.now c.requires.2 c.in_ok-put_part.ensures.1
+    second_fits (priced g.S.InstPrice.Price.units g.S.NotePrice.Price.units) _ _ c.args.prologue.now (body_of c.args.body.now) c.args.epilogue.now c.requires.fits c.in_ok-put_part.ensures.1
 
 pub returns-in_err-put_part-2 : goal.returns-in_err-put_part-2
 returns-in_err-put_part-2 g c =
-    let f = third_fits (priced g.S.InstPrice.Price.units g.S.NotePrice.Price.units) _ _ _ c.args.prologue.now (body_of c.args.body.now) c.args.epilogue.now c.requires.2 c.in_ok-put_part.ensures.1 c.in_ok-put_words.ensures in
+    let f = third_fits (priced g.S.InstPrice.Price.units g.S.NotePrice.Price.units) _ _ _ c.args.prologue.now (body_of c.args.body.now) c.args.epilogue.now c.requires.fits c.in_ok-put_part.ensures.1 c.in_ok-put_words.ensures in
     let l = c.in_err-put_part-2.ensures.0 in
     absurd (omega arith)
 

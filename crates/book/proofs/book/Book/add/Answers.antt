@@ -12,20 +12,20 @@ use Rattle.book.proofs.book.Book.add.Goals as goal
 
 pub returns-in_err-checked : goal.returns-in_err-checked
 returns-in_err-checked g c =
-    let e = err_from_is_err_and c.from-residual.result c.from-residual.ensures.1 in
+    let e = err_from_is_err_and c.from_residual.result c.from_residual.ensures.1 in
     record {
-      moves = λ r fs s. add_bad_as (priced g.S.InstPrice.Price.units g.S.NotePrice.Price.units) r _ _ fs c.args.sheet c.args.body.now c.from-residual.result e.0 _ e.1 e.2 s c.in_err-checked.ensures.0;
-      refused = kept_err c.from-residual.result _ (refl, refl);
+      moves = λ r fs s. add_bad_as (priced g.S.InstPrice.Price.units g.S.NotePrice.Price.units) r _ _ fs c.args.sheet c.args.body.now c.from_residual.result e.0 _ e.1 e.2 s c.in_err-checked.ensures.0;
+      refused = kept_err c.from_residual.result _ (refl, refl);
       claims = λ k fs s. claimed (priced g.S.InstPrice.Price.units g.S.NotePrice.Price.units) k _ _ fs s;
     }
 
 pub returns-in_err-entry : goal.returns-in_err-entry
 returns-in_err-entry g c =
-    let e = err_from_is_err_and c.from-residual-in_err-entry.result c.from-residual-in_err-entry.ensures.1 in
+    let e = err_from_is_err_and c.from_residual-in_err-entry.result c.from_residual-in_err-entry.ensures.1 in
     let k = c.in_ok-checked.ensures in
     record {
-      moves = λ r fs s. add_refused_as (priced g.S.InstPrice.Price.units g.S.NotePrice.Price.units) r _ _ fs c.args.sheet (plain c.in_ok-checked.checked) c.args.body.now c.from-residual-in_err-entry.result e.0 _ e.1 e.2 s k.0 k.1.0 c.in_err-entry.ensures.0;
-      refused = kept_err c.from-residual-in_err-entry.result _ (refl, refl);
+      moves = λ r fs s. add_refused_as (priced g.S.InstPrice.Price.units g.S.NotePrice.Price.units) r _ _ fs c.args.sheet (plain c.in_ok-checked.checked) c.args.body.now c.from_residual-in_err-entry.result e.0 _ e.1 e.2 s k.0 k.1.0 c.in_err-entry.ensures.0;
+      refused = kept_err c.from_residual-in_err-entry.result _ (refl, refl);
       claims = λ k fs s. claimed (priced g.S.InstPrice.Price.units g.S.NotePrice.Price.units) k _ _ fs s;
     }
 
@@ -33,13 +33,13 @@ pub put_function-requires : goal.put_function-requires
 put_function-requires g c =
     let same = c.compute_frame_layout-layout.ensures.sheet in
     let a = c.as_slice-3.ensures ∙ c.items_of-prologue.ensures.items in
-    let b = c.as_slice-4.ensures ∙ c.items_of-epilogue.ensures.items in (
-      subst AllRead (sym a) c.items_of-prologue.ensures.read,
-      subst AllRead (sym b) c.items_of-epilogue.ensures.read,
-      fits_by (priced g.S.InstPrice.Price.units g.S.NotePrice.Price.units) _ (plain c.in_ok-checked.checked) c.args.body.now _ _
+    let b = c.as_slice-4.ensures ∙ c.items_of-epilogue.ensures.items in record {
+      prologue_read = subst AllRead (sym a) c.items_of-prologue.ensures.read;
+      epilogue_read = subst AllRead (sym b) c.items_of-epilogue.ensures.read;
+      fits = fits_by (priced g.S.InstPrice.Price.units g.S.NotePrice.Price.units) _ (plain c.in_ok-checked.checked) c.args.body.now _ _
           (a ∙ ap (λ (x : CheckedSheet). prologue (plain x)) same) (b ∙ ap (λ (x : CheckedSheet). epilogue (plain x)) same)
-          (none_fits (priced g.S.InstPrice.Price.units g.S.NotePrice.Price.units) (g.S.Sink.held c.args.self.now.sink) _ (fun (plain c.in_ok-checked.checked) c.args.body.now) c.in_ok-entry.ensures.0),
-    )
+          (none_fits (priced g.S.InstPrice.Price.units g.S.NotePrice.Price.units) (g.S.Sink.held c.args.self.now.sink) _ (fun (plain c.in_ok-checked.checked) c.args.body.now) c.in_ok-entry.ensures.0);
+    }
 
 pub returns : goal.returns
 returns g c =

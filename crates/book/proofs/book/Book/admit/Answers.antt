@@ -33,8 +33,8 @@ returns-then-past g c = (
       (full_insts (g.S.Sink.held c.args.self.now.sink) (numbers_of (listed c.args.self.now.shelf)) (plain c.args.sheet) c.args.body.now
       c.counts-held.result.insts c.count_items-opening.result.insts c.count_items-closing.result.insts
       (ap (λ (x : Counts). x.insts) c.counts-held.ensures)
-      (c.count_items-opening.ensures.insts ∙ ap (λ (xs : List Item). length (insts_in xs)) c.requires.0)
-      (c.count_items-closing.ensures.insts ∙ ap (λ (xs : List Item). length (insts_in xs)) c.requires.1)
+      (c.count_items-opening.ensures.insts ∙ ap (λ (xs : List Item). length (insts_in xs)) c.requires.prologue_value)
+      (c.count_items-closing.ensures.insts ∙ ap (λ (xs : List Item). length (insts_in xs)) c.requires.epilogue_value)
       (sym c.past.ensures ∙ c.if-past.true))
       ∙ ap (λ (t : Told). Some t) (sym c.too_many-then-past.ensures),
   tt,
@@ -46,8 +46,8 @@ returns-then-past-2 g c = (
       (full_notes (g.S.Sink.held c.args.self.now.sink) (numbers_of (listed c.args.self.now.shelf)) (plain c.args.sheet) c.args.body.now
       c.counts-held.result.notes c.count_items-opening.result.notes c.count_items-closing.result.notes
       (ap (λ (x : Counts). x.notes) c.counts-held.ensures)
-      (c.count_items-opening.ensures.notes ∙ ap marks_in c.requires.0)
-      (c.count_items-closing.ensures.notes ∙ ap marks_in c.requires.1)
+      (c.count_items-opening.ensures.notes ∙ ap marks_in c.requires.prologue_value)
+      (c.count_items-closing.ensures.notes ∙ ap marks_in c.requires.epilogue_value)
       (sym c.past-2.ensures ∙ c.if-past-2.true))
       ∙ ap (λ (t : Told). Some t) (sym c.too_many-then-past-2.ensures),
   tt,
@@ -55,10 +55,10 @@ returns-then-past-2 g c = (
 
 pub returns-then-price-held : goal.returns-then-price-held
 returns-then-price-held g c =
-    let ai = c.count_items-opening.ensures.insts ∙ ap (λ (xs : List Item). length (insts_in xs)) c.requires.0 in
-    let bi = c.count_items-closing.ensures.insts ∙ ap (λ (xs : List Item). length (insts_in xs)) c.requires.1 in
-    let an = c.count_items-opening.ensures.notes ∙ ap marks_in c.requires.0 in
-    let bn = c.count_items-closing.ensures.notes ∙ ap marks_in c.requires.1 in
+    let ai = c.count_items-opening.ensures.insts ∙ ap (λ (xs : List Item). length (insts_in xs)) c.requires.prologue_value in
+    let bi = c.count_items-closing.ensures.insts ∙ ap (λ (xs : List Item). length (insts_in xs)) c.requires.epilogue_value in
+    let an = c.count_items-opening.ensures.notes ∙ ap marks_in c.requires.prologue_value in
+    let bn = c.count_items-closing.ensures.notes ∙ ap marks_in c.requires.epilogue_value in
     let full : is_full (g.S.Sink.held c.args.self.now.sink) (numbers_of (listed c.args.self.now.shelf)) (fun (plain c.args.sheet) c.args.body.now) ≡ false =
     not_full (g.S.Sink.held c.args.self.now.sink) (listed c.args.self.now.shelf) (plain c.args.sheet) c.args.body.now c.len.result
     c.counts-held.result.insts c.count_items-opening.result.insts c.count_items-closing.result.insts
@@ -77,10 +77,10 @@ returns-then-price-held g c =
 
 pub returns : goal.returns
 returns g c =
-    let ai = c.count_items-opening.ensures.insts ∙ ap (λ (xs : List Item). length (insts_in xs)) c.requires.0 in
-    let bi = c.count_items-closing.ensures.insts ∙ ap (λ (xs : List Item). length (insts_in xs)) c.requires.1 in
-    let an = c.count_items-opening.ensures.notes ∙ ap marks_in c.requires.0 in
-    let bn = c.count_items-closing.ensures.notes ∙ ap marks_in c.requires.1 in
+    let ai = c.count_items-opening.ensures.insts ∙ ap (λ (xs : List Item). length (insts_in xs)) c.requires.prologue_value in
+    let bi = c.count_items-closing.ensures.insts ∙ ap (λ (xs : List Item). length (insts_in xs)) c.requires.epilogue_value in
+    let an = c.count_items-opening.ensures.notes ∙ ap marks_in c.requires.prologue_value in
+    let bn = c.count_items-closing.ensures.notes ∙ ap marks_in c.requires.epilogue_value in
     let full : is_full (g.S.Sink.held c.args.self.now.sink) (numbers_of (listed c.args.self.now.shelf)) (fun (plain c.args.sheet) c.args.body.now) ≡ false =
     not_full (g.S.Sink.held c.args.self.now.sink) (listed c.args.self.now.shelf) (plain c.args.sheet) c.args.body.now c.len.result
     c.counts-held.result.insts c.count_items-opening.result.insts c.count_items-closing.result.insts

@@ -1,11 +1,11 @@
 -- Each named instruction is the reading of its word.
-use Rattle.std.proofs.Common.{◌≡◌, ℕ, suc, ◌+◌, ◌-◌, ◌*◌, ◌/◌, ◌%◌, ◌^◌, ◌<◌, ◌≤◌, Bool, true, false, cond, eqb, ℤ, sym, refl, ap, ◌∙◌, arith}
-use Rattle.a64.specs.Signed.{twos, from_twos, Within}
-use Rattle.a64.specs.Words.{after, word, Formed, flag, load_bit, key_bit, sp_bit, wide_bit, mode_bits}
+use Rattle.std.proofs.Common.{◌≡◌, ℕ, ◌*◌, ◌/◌, ◌^◌, ◌<◌, Bool, true, false, eqb, refl, arith}
+use Rattle.a64.specs.Signed.{twos}
+use Rattle.a64.specs.Words.{after, word, Formed, flag, load_bit, wide_bit, mode_bits}
 use Rattle.decoder.proofs.Rows.{rest, cut_word, same_word, pair_mode_bit}
 use Rattle.a64.specs.declared.inst.Reg.{Reg}
-use Rattle.decoder.specs.Reading.{field_of, dir_of, key_of, modifier_of, add_sub_imm_of, add_sub_ext_of, adds_shifted_of, pair, pair_post_of, pair_pre_of, single, indexed, ldr_reg_of, load_x_of, ldr_u_imm, store_w_of, mov_wide_of, hint, ret, branch, reading}
-use Rattle.decoder.proofs.Fields.{Fit, Hold, top, taken}
+use Rattle.decoder.specs.Reading.{dir_of, add_sub_imm_of, add_sub_ext_of, pair, indexed, reading}
+use Rattle.decoder.proofs.Fields.{Fit, top, taken}
 use Rattle.decoder.proofs.Twos.{back, twos_below}
 use Rattle.a64.specs.declared.inst.AddSub.{AddSub}
 use Rattle.a64.specs.declared.inst.Dir.{Dir}
@@ -19,8 +19,6 @@ use Rattle.a64.specs.declared.inst.Modifier.{Modifier}
 use Rattle.a64.specs.declared.imm.Imm12.{Imm12}
 use Rattle.a64.specs.declared.imm.SImm7Scaled.{SImm7Scaled}
 use Rattle.a64.specs.declared.imm.SImm9.{SImm9}
-use Rattle.a64.specs.declared.imm.UImm12Scaled.{UImm12Scaled}
-use Rattle.a64.specs.declared.imm.MoveWideConst.{MoveWideConst}
 use Rattle.a64.specs.declared.inst.Inst.{Inst}
 use Rattle.a64.specs.declared.inst.Inst.TheVariants.{AddSubImm, AddSubExt, AddsShifted, Pair, Single, LdrUImm, LdrReg, StrWReg, SturW, MovWide, Paci, Auti, BtiC, Ret, RetAuth, BGt, Other}
 

@@ -1,5 +1,5 @@
 -- Fields of any widths: to join them and to take one out again are inverse. One law for every row.
-use Rattle.std.proofs.Common.{◌≡◌, ℕ, suc, ◌+◌, ◌-◌, ◌*◌, ◌/◌, ◌%◌, ◌^◌, ◌<◌, ◌≤◌, List, [], ◌∷◌, sym, refl, ap, ◌∙◌, add_comm, div-one, arith, shr-shr}
+use Rattle.std.proofs.Common.{◌≡◌, ℕ, ◌+◌, ◌*◌, ◌/◌, ◌%◌, ◌^◌, ◌<◌, List, [], ◌∷◌, sym, ap, ◌∙◌, add_comm, div-one, shr-shr}
 use lib.Pow.{split, high, low}
 use Rattle.a64.specs.Words.{after}
 use Rattle.decoder.specs.Reading.{field_of}

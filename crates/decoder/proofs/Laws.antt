@@ -1,5 +1,5 @@
 -- Each word has one reading, and each instruction that is a reading has one word.
-use Rattle.std.proofs.Common.{◌≡◌, ℕ, ◌⊎◌, sym, refl, ap, ◌∙◌, subst, inl, inr, arith}
+use Rattle.std.proofs.Common.{◌≡◌, ℕ, sym, refl, ◌∙◌, subst, inl, inr}
 use Rattle.a64.specs.Words.{word, Formed, Reads}
 use Rattle.decoder.specs.Reading.{reading}
 use Rattle.decoder.proofs.Back.{reads_back}

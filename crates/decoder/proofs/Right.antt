@@ -1,27 +1,19 @@
 -- What the reading of a word is: the named instruction with this word, or `Other`.
-use Rattle.std.proofs.Common.{◌≡◌, ℕ, zero, suc, ◌+◌, ◌-◌, ◌*◌, ◌/◌, ◌%◌, ◌^◌, ◌<◌, ◌≤◌, Bool, true, false, cond, ◌&&◌, eqb, ℤ, sym, refl, ap, ◌∙◌, subst, arith}
+use Rattle.std.proofs.Common.{◌≡◌, ℕ, zero, suc, ◌*◌, ◌/◌, ◌%◌, ◌^◌, ◌<◌, false, ◌&&◌, eqb, sym, refl, ◌∙◌, subst, arith}
 use Rattle.std.proofs.lemmas.Bool.{cond_both, eqb-true, eqb-false, and_parts}
 use Rattle.std.proofs.lemmas.Nat.{mod_below, pow_pos}
 use Rattle.a64.specs.Signed.{twos, from_twos, Within}
 use Rattle.a64.specs.Words.{after, word, Formed, flag, load_bit, key_bit, sp_bit, wide_bit, mode_bits, pair_clash_of, single_clash_of}
-use Rattle.decoder.proofs.Rows.{head, rest, cut_word, same_word, add_sub_imm_head, add_sub_ext_head, pair_head, pair_mode_bit, single_head, mov_head}
-use Rattle.decoder.specs.Reading.{field_of, reg_of, dir_of, key_of, modifier_of, add_sub_imm_of, add_sub_ext_of, adds_shifted_of, pair, pair_post_of, pair_pre_of, single, indexed, ldr_reg_of, load_x_of, ldr_u_imm, store_w_of, mov_wide_of, hint, ret, branch, by_head, reading}
-use Rattle.decoder.proofs.Fields.{Hold, joined}
+use Rattle.decoder.proofs.Rows.{head, rest, same_word, add_sub_imm_head, add_sub_ext_head, pair_head, pair_mode_bit, single_head, mov_head}
+use Rattle.decoder.specs.Reading.{field_of, reg_of, dir_of, key_of, modifier_of, add_sub_imm_of, add_sub_ext_of, adds_shifted_of, pair, pair_post_of, pair_pre_of, single, indexed, ldr_reg_of, load_x_of, ldr_u_imm, store_w_of, mov_wide_of, hint, ret, branch, reading}
+use Rattle.decoder.proofs.Fields.{joined}
 use Rattle.decoder.proofs.Twos.{forth, within}
 use Rattle.a64.specs.declared.inst.AddSub.{AddSub}
-use Rattle.a64.specs.declared.inst.Dir.{Dir}
 use Rattle.a64.specs.declared.inst.PairClass.{PairClass}
 use Rattle.a64.specs.declared.inst.PairMode.{PairMode}
 use Rattle.a64.specs.declared.inst.Class.{Class}
 use Rattle.a64.specs.declared.inst.Mode.{Mode}
 use Rattle.a64.specs.declared.inst.MoveWideOp.{MoveWideOp}
-use Rattle.a64.specs.declared.inst.Key.{Key}
-use Rattle.a64.specs.declared.inst.Modifier.{Modifier}
-use Rattle.a64.specs.declared.imm.Imm12.{Imm12}
-use Rattle.a64.specs.declared.imm.SImm7Scaled.{SImm7Scaled}
-use Rattle.a64.specs.declared.imm.SImm9.{SImm9}
-use Rattle.a64.specs.declared.imm.UImm12Scaled.{UImm12Scaled}
-use Rattle.a64.specs.declared.imm.MoveWideConst.{MoveWideConst}
 use Rattle.a64.specs.declared.inst.Inst.{Inst}
 use Rattle.a64.specs.declared.inst.Inst.TheVariants.{AddSubImm, AddSubExt, AddsShifted, Pair, Single, LdrUImm, LdrReg, StrWReg, SturW, MovWide, Paci, Auti, BtiC, Ret, RetAuth, BGt, Other}
 

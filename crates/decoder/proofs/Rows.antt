@@ -1,12 +1,11 @@
 -- The row of each instruction once more, cut at bit 24: what a reader looks at first, and the rest in as few fields as it tells apart.
-use Rattle.std.proofs.Common.{◌≡◌, ℕ, ◌+◌, ◌*◌, ◌/◌, ◌%◌, ◌^◌, List, [], ◌∷◌, refl, arith}
+use Rattle.std.proofs.Common.{◌≡◌, ℕ, ◌/◌, ◌%◌, ◌^◌, List, [], ◌∷◌, refl, arith}
 use Rattle.a64.specs.Signed.{twos}
 use Rattle.a64.specs.Words.{after, word, flag, load_bit, key_bit, sp_bit, wide_bit, mode_bits}
 use Rattle.a64.specs.declared.inst.AddSub.{AddSub}
 use Rattle.a64.specs.declared.inst.PairClass.{PairClass}
 use Rattle.a64.specs.declared.inst.PairMode.{PairMode}
 use Rattle.a64.specs.declared.inst.Class.{Class}
-use Rattle.a64.specs.declared.inst.Mode.{Mode}
 use Rattle.a64.specs.declared.inst.MoveWideOp.{MoveWideOp}
 use Rattle.a64.specs.declared.inst.Key.{Key}
 use Rattle.a64.specs.declared.inst.Modifier.{Modifier}

@@ -1,5 +1,5 @@
 -- The reading of a word, worked out. `Words` says what a reading is, and `proofs/Laws` shows that this is it.
-use Rattle.std.specs.Prelude.{ℕ, ◌*◌, ◌/◌, ◌%◌, ◌^◌, Bool, true, false, cond, ◌&&◌, ◌==◌}
+use Rattle.std.specs.Prelude.{ℕ, ◌*◌, ◌/◌, ◌%◌, ◌^◌, cond, ◌&&◌, ◌==◌}
 use Rattle.a64.specs.Signed.{from_twos}
 use Rattle.a64.specs.Words.{pair_clash_of, single_clash_of, wide_bit}
 use Rattle.a64.specs.declared.inst.Reg.{Reg}

@@ -1,6 +1,5 @@
 -- Items whose instructions are all readings, and how many they are at most.
-use Rattle.std.proofs.Common.{◌≡◌, ℕ, zero, suc, ◌+◌, ◌-◌, ◌*◌, ◌/◌, ◌%◌, ◌^◌, ◌<◌, ◌≤◌, Bool, true, false, cond, not, ◌&&◌, ◌||◌, eqb, ltb, leb, ◌⊎◌, List, [], ◌∷◌, ◌++◌, length, ℤ, pos, negsuc, Some, None, filter, Option, sym, refl, ap, ◌∙◌, subst, inl, inr, mod-lt, arith, lit<, ltb-true, eqb-true, leb-true}
-use borrow.Author.Tests.{eqb-false}
+use Rattle.std.proofs.Common.{◌≡◌, ℕ, zero, suc, ◌+◌, ◌*◌, ◌/◌, ◌%◌, ◌^◌, ◌<◌, ◌≤◌, Bool, true, false, cond, not, ◌&&◌, ◌||◌, eqb, ltb, leb, List, [], ◌∷◌, ◌++◌, length, ℤ, pos, negsuc, Some, None, filter, Option, sym, refl, ap, ◌∙◌, subst, inl, mod-lt, arith, lit<, ltb-true, eqb-true, leb-true}
 use Rattle.std.proofs.lemmas.List.{length-append}
 use Rattle.a64.specs.Operands.{imm12_of, uimm12_of}
 use Rattle.a64.specs.Words.{Formed, word}
@@ -11,7 +10,6 @@ use Rattle.a64.specs.declared.inst.ApiKey.{ApiKey}
 use Rattle.a64.specs.declared.inst.Inst.{Inst}
 use Rattle.a64.specs.declared.inst.Inst.TheVariants.{AddSubImm, AddSubExt, Paci, Auti, BtiC, Ret, RetAuth, BGt}
 use Rattle.a64.specs.declared.inst.PairClass.{PairClass}
-use Rattle.a64.specs.declared.inst.Class.{Class}
 use Rattle.a64.specs.declared.inst.Reg.{Reg}
 use Rattle.sheet.specs.Codes.{has}
 use Rattle.sheet.specs.Plain.{PlainSheet, same}
@@ -25,12 +23,12 @@ use Rattle.sink.specs.declared.item.Item.{Item}
 use Rattle.notes.specs.declared.UnwindInst.{UnwindInst}
 use Rattle.notes.specs.declared.UnwindInst.TheVariants.{PushFrameRegs, DefineNewFrame, StackAlloc, SaveReg, Aarch64SetPointerAuth}
 use Rattle.sink.proofs.Items.{all_append}
-use Rattle.frame.specs.Forms.{mov_fp_sp_of, push_pair_of, pop_pair_of, push_one_of, pop_one_of, store_fp_lr, load_fp, load_fp_far}
-use Rattle.steps.specs.Forms.{sp, spilltmp, tmp2, reg, movz, movk, probe_sp, step_down, probe_below, compare_end}
+use Rattle.frame.specs.Forms.{mov_fp_sp_of, push_pair_of, pop_pair_of, store_fp_lr, load_fp, load_fp_far}
+use Rattle.steps.specs.Forms.{sp, spilltmp, tmp2, movz, movk, probe_sp, step_down, probe_below, compare_end}
 use Rattle.item_list.specs.Items.{code}
 use Rattle.frame.specs.Opens.{allocates, defines, frame_pushed, grows, moved, padded, probes}
 use Rattle.frame.specs.Closes.{frame_popped}
-use Rattle.frame.specs.Pieces.{noting, sealed, select_api_key_of, gen_prologue_frame_setup_of, tail_reload_by, tail_reload_of, incoming_args_diff_of, resize_incoming_of, push, pop, slot_notes, save_slots, stack_size_of, gen_clobber_save_of, restore_slots, gen_clobber_restore_of, callee_pop_size_of, gen_epilogue_frame_restore_of, authenticated_ret_of, return_by, gen_return_of, probe_size_of, prologue, epilogue}
+use Rattle.frame.specs.Pieces.{noting, sealed, select_api_key_of, gen_prologue_frame_setup_of, tail_reload_by, tail_reload_of, incoming_args_diff_of, resize_incoming_of, push, pop, slot_notes, save_slots, stack_size_of, gen_clobber_save_of, restore_slots, gen_clobber_restore_of, callee_pop_size_of, gen_epilogue_frame_restore_of, return_by, gen_return_of, probe_size_of, prologue, epilogue}
 use Rattle.steps.specs.Adjust.{part, keep_parts, load_parts, load_constant_of, sp_by_of, sp_by_imm, gen_sp_reg_adjust_of}
 use Rattle.steps.specs.Probes.{probe_each, gen_probestack_unroll_of, stack_probe_loop_of, gen_probestack_loop_of, gen_inline_probestack_of}
 use Rattle.item_list.proofs.Joins.{code_append}

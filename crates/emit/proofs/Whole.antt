@@ -1,5 +1,5 @@
 -- A list of a piece's items, put on a sink.
-use Rattle.std.proofs.Common.{◌≡◌, ℕ, ◌≤◌, Bool, true, false, List, [], length, Result, sym, refl, ap, ◌∙◌, subst, arith}
+use Rattle.std.proofs.Common.{◌≡◌, ℕ, ◌≤◌, Bool, true, false, List, [], length, Result, sym, ◌∙◌, subst, arith}
 use Rattle.refusal.specs.declared.Refusal.{Refusal}
 use Rattle.sink.specs.Held.{Held, Prices}
 use Rattle.sink.specs.Items.{AllRead, PutItems, PutPiece}

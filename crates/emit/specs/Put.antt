@@ -1,12 +1,11 @@
 -- What it is to put a piece on a sink.
-use Rattle.std.specs.Prelude.{◌≡◌, ℕ, ◌%◌, ◌<◌, ◌≤◌, Bool, true, false, not, ◌||◌, List, is_some, Result, MatchResult, ◌==◌}
+use Rattle.std.specs.Prelude.{◌≡◌, ℕ, Bool, true, false, not, ◌||◌, is_some, Result, MatchResult, ◌==◌}
 use Rattle.refusal.specs.Told.{Told, told}
 use Rattle.refusal.specs.declared.Refusal.{Refusal}
 use Rattle.a64.specs.Operands.{imm12_of}
 use Rattle.sheet.specs.Refused.{uneven}
-use Rattle.sink.specs.Held.{Held, Prices, no_room_of}
+use Rattle.sink.specs.Held.{Held, Prices}
 use Rattle.sink.specs.Items.{PutPiece}
-use Rattle.sink.specs.declared.item.Item.{Item}
 use Rattle.item_list.specs.Items.{code}
 use Rattle.steps.specs.Probes.{gen_inline_probestack_of}
 

@@ -1,5 +1,5 @@
 -- Room for a tail call, and for the frame's storage.
-use Rattle.std.proofs.Common.{◌≡◌, ℕ, ◌<◌, ◌≤◌, Bool, cond, eqb, List, [], ◌∷◌, ◌++◌, sym, refl, ap, ◌∙◌, arith, eq-eqb, ne_eqb}
+use Rattle.std.proofs.Common.{◌≡◌, ℕ, ◌<◌, ◌≤◌, Bool, cond, eqb, List, [], ◌++◌, sym, ap, ◌∙◌, arith, eq-eqb, ne_eqb}
 use Rattle.a64.specs.declared.inst.AddSub.{AddSub}
 use Rattle.sheet.specs.Plain.{PlainSheet}
 use Rattle.sink.specs.declared.item.Item.{Item}

@@ -1,5 +1,5 @@
 -- The landing pad and the seal.
-use Rattle.std.proofs.Common.{◌≡◌, Bool, true, false, cond, List, [], ◌∷◌, ◌++◌, Some, None, Option, sym, refl, ap, ◌∙◌, append-nil}
+use Rattle.std.proofs.Common.{◌≡◌, Bool, true, false, cond, [], ◌∷◌, ◌++◌, Some, None, Option, sym, ap, ◌∙◌, append-nil}
 use Rattle.a64.specs.declared.inst.ApiKey.{ApiKey}
 use Rattle.a64.specs.declared.inst.Inst.TheVariants.{Paci}
 use Rattle.sheet.specs.Plain.{PlainSheet, same}

@@ -1,5 +1,5 @@
 -- The sizes of an accepted sheet fit 32 bits.
-use Rattle.std.proofs.Common.{◌≡◌, ℕ, ◌+◌, ◌-◌, ◌*◌, ◌%◌, ◌^◌, ◌<◌, ◌≤◌, Bool, true, false, cond, ltb, List, length, sym, refl, ap, ◌∙◌, arith}
+use Rattle.std.proofs.Common.{◌≡◌, ℕ, ◌+◌, ◌*◌, ◌≤◌, Bool, true, false, cond, ltb, length, refl, ap, ◌∙◌, arith}
 use Rattle.sheet.specs.Accepted.{Accepted}
 use Rattle.sheet.specs.Checks.{plain}
 use Rattle.sheet.specs.Plain.{PlainSheet, same}

@@ -1,10 +1,10 @@
 -- The slots of the save area, one by one.
-use Rattle.std.proofs.Common.{◌≡◌, ℕ, zero, suc, ◌+◌, ◌-◌, ◌*◌, ◌/◌, ◌%◌, ◌<◌, ◌≤◌, Bool, true, false, cond, List, [], ◌∷◌, ◌++◌, map, length, get_or, take, drop, sym, refl, ap, ◌∙◌, subst, append_assoc, append-nil, arith}
+use Rattle.std.proofs.Common.{◌≡◌, ℕ, zero, suc, ◌+◌, ◌-◌, ◌*◌, ◌/◌, ◌%◌, ◌<◌, ◌≤◌, Bool, true, false, cond, List, [], ◌∷◌, ◌++◌, map, length, get_or, take, drop, sym, refl, ap, ◌∙◌, append_assoc, append-nil, arith}
 use Rattle.std.proofs.lemmas.List.{length-append, length-map, get_or-map, get_or_append_left, get_or-append_right, take_at, drop_at, take_rest, take_all, drop_all, drop_more}
 use Rattle.a64.specs.declared.inst.Inst.{Inst}
 use Rattle.sheet.specs.Plain.{PlainSheet, same}
 use Rattle.sheet.specs.Checks.{plain}
-use Rattle.sheet.specs.Saved.{saved_ints_of, saved_vecs_of, saved_codes, clobber_size_of}
+use Rattle.sheet.specs.Saved.{saved_ints_of, saved_vecs_of, saved_codes}
 use Rattle.sheet.specs.declared.types.CallConv.TheVariants.{PreserveAll}
 use Rattle.layout.specs.Slots.{Slot, pair_x, one_x, pair_d, one_d, one_q, twos_x, twos_d, each_q, slots_of}
 use Rattle.layout.specs.declared.frame_layout.FrameLayout.{FrameLayout}

@@ -1,10 +1,6 @@
 -- What the small steps of the pieces give.
-use Rattle.std.specs.Prelude.{ℕ, ◌+◌, ◌<◌, Bool, cond, ℤ, pos, negsuc}
-use Rattle.a64.specs.declared.inst.AddSub.{AddSub}
-use Rattle.a64.specs.declared.inst.Reg.{Reg}
-use Rattle.a64.specs.declared.inst.Inst.{Inst}
+use Rattle.std.specs.Prelude.{◌+◌, ◌<◌}
 use Rattle.layout.specs.Slots.{Slot, pair_x, one_x, pair_d, one_d, one_q}
-use Rattle.steps.specs.Forms.{movz, movk}
 use Rattle.frame.specs.declared.slots.SaveSlot.{SaveSlot}
 use Rattle.frame.specs.declared.slots.SaveSlot.TheVariants.{PairX, OneX, PairD, OneD, OneQ}
 

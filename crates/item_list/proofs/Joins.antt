@@ -1,6 +1,6 @@
 -- Putting items behind a list, piece by piece.
-use Rattle.std.proofs.Common.{◌≡◌, ℕ, zero, suc, ◌+◌, ◌-◌, ◌<◌, ◌≤◌, List, [], ◌∷◌, ◌++◌, length, take, sym, refl, ap, ◌∙◌, append_assoc, append-nil, not-suc-le-zero, arith}
-use Rattle.std.proofs.lemmas.List.{length-take, length-append, take_all, take-append-le}
+use Rattle.std.proofs.Common.{◌≡◌, ℕ, zero, suc, ◌≤◌, List, [], ◌∷◌, ◌++◌, length, take, sym, refl, ap, ◌∙◌, append_assoc, append-nil, arith}
+use Rattle.std.proofs.lemmas.List.{length-take, take_all}
 use Rattle.a64.specs.declared.inst.Inst.{Inst}
 use Rattle.item_list.specs.Items.{code}
 use Rattle.item_list.specs.Limits.{cell_count}

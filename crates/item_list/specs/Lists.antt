@@ -1,5 +1,5 @@
 -- A list of items in a fixed number of cells, and what is put behind it.
-use Rattle.std.specs.Prelude.{◌≡◌, ℕ, List, ◌++◌, take}
+use Rattle.std.specs.Prelude.{◌≡◌, List, ◌++◌, take}
 use Rattle.item_list.specs.Limits.{cell_count}
 use Rattle.sink.specs.declared.item.Item.{Item}
 use Rattle.item_list.specs.declared.ItemList.{ItemList}

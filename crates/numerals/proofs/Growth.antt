@@ -1,5 +1,5 @@
 -- Numbers only grow by further digits.
-use Rattle.std.proofs.Common.{◌≡◌, ℕ, suc, ◌+◌, ◌*◌, ◌^◌, ◌<◌, ◌≤◌, ltb, List, [], ◌∷◌, length, IfSome, Some, None, Option, sym, refl, ap, ◌∙◌, subst, mul_assoc, mul-one, le-mul_of_pos_right, arith}
+use Rattle.std.proofs.Common.{◌≡◌, ℕ, suc, ◌+◌, ◌*◌, ◌^◌, ◌<◌, ◌≤◌, ltb, List, [], ◌∷◌, length, IfSome, Some, None, sym, refl, ap, ◌∙◌, subst, mul_assoc, mul-one, le-mul_of_pos_right, arith}
 use Rattle.std.proofs.lemmas.Bool.{cond-false, cond_both, le-ltb, ltb-true}
 use Rattle.numerals.specs.Numbers.{below, value_after, worth}
 use native.Mathlib.Nat.{pow-succ'}

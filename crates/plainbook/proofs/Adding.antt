@@ -1,11 +1,10 @@
 -- The rows of an add, and what an accepted one makes of a standing book.
-use Rattle.std.proofs.Common.{◌≡◌, ℕ, ◌+◌, ◌-◌, ◌<◌, ◌≤◌, Bool, true, false, cond, ◌||◌, ltb, leb, List, [], ◌∷◌, ◌++◌, map, length, Some, None, Ok, Err, Option, Result, sym, refl, ap, ◌∙◌, subst, arith, MatchResult}
-use Rattle.std.specs.List.{AllByRecursion as All}
+use Rattle.std.proofs.Common.{◌≡◌, ℕ, ◌+◌, ◌-◌, ◌<◌, ◌≤◌, Bool, true, false, cond, ltb, leb, List, [], ◌∷◌, ◌++◌, map, length, Some, None, Ok, Err, Option, Result, sym, refl, ap, ◌∙◌, subst, arith, MatchResult}
 use Rattle.std.proofs.ByRecursion.{All-push}
 use Rattle.std.proofs.lemmas.List.{length-map, map_push}
 use Rattle.std.proofs.lemmas.Bool.{lt-ltb, le-ltb, le-leb, lt-leb, leb-false, ltb-false, or_from, or_left, or_right, or_parts, cond-true}
 use Rattle.frame.specs.Pieces.{prologue, epilogue}
-use Rattle.refusal.specs.Told.{Told, Row, first, told}
+use Rattle.refusal.specs.Told.{Told, first, told}
 use Rattle.refusal.specs.declared.Refusal.{Refusal}
 use Rattle.sheet.specs.Accepted.{Accepted}
 use Rattle.sheet.specs.Plain.{PlainSheet, plain_of}
@@ -16,7 +15,7 @@ use Rattle.shelf.specs.Slots.{slot_for, numbers_of}
 use Rattle.shelf.specs.declared.entry.Entry.{Entry}
 use Rattle.sink.proofs.Items.{length_notes}
 use Rattle.sink.specs.Held.{Held, Prices, no_room_of}
-use Rattle.sink.specs.Items.{insts_in, notes_from, marks_in, cost_of, with_items}
+use Rattle.sink.specs.Items.{insts_in, marks_in, cost_of, with_items}
 use Rattle.sink.specs.declared.item.Item.{Item}
 use Rattle.plainbook.specs.Limits.{item_limit}
 use Rattle.plainbook.specs.Refusals.{taken, full, taken_at, or_else, unless, said}

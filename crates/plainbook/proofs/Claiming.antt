@@ -1,11 +1,11 @@
 -- The claims of each held function.
-use Rattle.std.proofs.Common.{◌≡◌, ℕ, zero, suc, ◌+◌, ◌≤◌, true, List, [], ◌∷◌, ◌++◌, map, length, take, drop, Some, None, Option, sym, refl, ap, ◌∙◌, subst, append_assoc, append-nil, arith}
-use Rattle.std.specs.List.{AllByRecursion as All}
+use Rattle.std.proofs.Common.{◌≡◌, ℕ, zero, suc, ◌+◌, List, [], ◌∷◌, ◌++◌, map, length, take, drop, Some, None, Option, sym, refl, ap, ◌∙◌, subst, append_assoc, append-nil, arith}
+use Rattle.std.specs.List.{AllByRecursion}
 use Rattle.std.proofs.lemmas.List.{take_at, drop_at}
 use Rattle.a64.specs.declared.inst.Inst.{Inst}
 use Rattle.item_list.specs.Items.{code}
 use Rattle.frame.specs.Pieces.{prologue, epilogue, gen_clobber_restore_of, gen_epilogue_frame_restore_of, gen_return_of}
-use Rattle.machine.specs.Machine.{State, Core, LawfulCore, LandingPad, at, returned, Comes}
+use Rattle.machine.specs.Machine.{State, Core, at, returned, Comes}
 use Rattle.returns.proofs.Counts.{one_note_each}
 use Rattle.returns.proofs.Framed.{frame_noted}
 use Rattle.returns.proofs.Lands.{lands}
@@ -13,7 +13,7 @@ use Rattle.returns.proofs.Notes.{each_notes_hold}
 use Rattle.returns.proofs.Sheets as sheets
 use Rattle.returns.proofs.Trees.{each_tree_returns}
 use Rattle.returns.specs.Notes.{EachNote, Holds, downward, note_count, pushes, defines, total}
-use Rattle.returns.specs.Premises.{Entry, Body, Lawful, last}
+use Rattle.returns.specs.Premises.{Body, Lawful, last}
 use Rattle.returns.specs.Returns.{CameBack, opens, closes, standing}
 use Rattle.returns.specs.Trees.{Fun as Placed, Stands as StandsIn}
 use Rattle.sheet.specs.Accepted.{Accepted}
@@ -23,7 +23,6 @@ use Rattle.shelf.specs.declared.entry.Entry.{Entry as Listed}
 use Rattle.sink.proofs.Items.{insts_append, notes_append, length_notes, length_insts_append, marks_append}
 use Rattle.sink.specs.Held.{Held, Prices}
 use Rattle.sink.specs.Items.{insts_in, notes_from, marks_in}
-use Rattle.sink.specs.declared.item.Item.{Item}
 use Rattle.notes.specs.declared.Note.{Note}
 use Rattle.plainbook.specs.Plain.{Fun, reading_of, body_of, items_of, all_items}
 use Rattle.plainbook.specs.Stands.{Stands, PlainEntry, plain_entry, entry_of, entries_from}
@@ -61,7 +60,7 @@ code_text fs front rest f e =
     ∙ append_assoc (opens f.sheet) (map reading_of f.body ++ closes f.sheet) (insts_in (all_items rest))
     ∙ ap (λ (xs : List Inst). opens f.sheet ++ xs) (append_assoc (map reading_of f.body) (closes f.sheet) (insts_in (all_items rest))))
 
-accepted_at : (front rest : List Fun) (f : Fun) → All (λ (g : Fun). Accepted g.sheet) (front ++ f ∷ rest) → Accepted f.sheet
+accepted_at : (front rest : List Fun) (f : Fun) → AllByRecursion (λ (g : Fun). Accepted g.sheet) (front ++ f ∷ rest) → Accepted f.sheet
 accepted_at [] rest f a = a.0
 accepted_at (g ∷ front) rest f a = accepted_at front rest f a.1
 
@@ -72,7 +71,7 @@ stands_in p r h es fs f start from s w = record {
   behind = insts_in (all_items w.rest);
   place = sym w.place;
   text = ap (λ (t : Held). t.insts) s.means ∙ code_text fs w.front w.rest f w.split;
-  accepted = accepted_at w.front w.rest f (subst (All (λ (g : Fun). Accepted g.sheet)) w.split s.accepted);
+  accepted = accepted_at w.front w.rest f (subst (AllByRecursion (λ (g : Fun). Accepted g.sheet)) w.split s.accepted);
 }
 
 -- ---- (a) and (b)

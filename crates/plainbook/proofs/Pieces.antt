@@ -1,18 +1,15 @@
 -- A function's items as they are put.
-use Rattle.std.proofs.Common.{◌≡◌, ℕ, zero, suc, ◌+◌, ◌-◌, ◌*◌, ◌<◌, ◌≤◌, ◌⊎◌, List, [], ◌∷◌, ◌++◌, map, length, get_or, take, sym, refl, ap, ◌∙◌, inl, inr, append_assoc, mul-le-mul_left, mul-zero, mul-add, arith}
+use Rattle.std.proofs.Common.{◌≡◌, ℕ, zero, suc, ◌+◌, ◌-◌, ◌*◌, ◌<◌, ◌≤◌, List, [], ◌∷◌, ◌++◌, length, get_or, take, sym, refl, ap, ◌∙◌, mul-le-mul_left, mul-zero, arith}
 use Rattle.std.proofs.lemmas.List.{map_more, take_all}
 use Rattle.a64.specs.declared.inst.Inst.{Inst}
 use Rattle.decoder.specs.Reading.{reading}
-use Rattle.codec.specs.Unread.{unread}
 use Rattle.frame.specs.Pieces.{prologue, epilogue}
-use Rattle.refusal.specs.Told.{told}
-use Rattle.refusal.specs.declared.Refusal.{Refusal}
 use Rattle.sheet.specs.Plain.{PlainSheet}
 use Rattle.sink.proofs.Items.{with_append, with_code, cost_append, cost_code, length_insts_append, marks_append}
-use Rattle.sink.specs.Held.{Held, Prices, with_inst, no_room_of}
-use Rattle.sink.specs.Items.{AllRead, insts_in, marks_in, cost_of, with_items}
+use Rattle.sink.specs.Held.{Held, Prices, with_inst}
+use Rattle.sink.specs.Items.{insts_in, marks_in, cost_of, with_items}
 use Rattle.sink.specs.declared.item.Item.{Item}
-use Rattle.plainbook.specs.Plain.{Fun, fun, reading_of, body_of, items_of}
+use Rattle.plainbook.specs.Plain.{fun, reading_of, body_of, items_of}
 
 -- ---- body words
 

@@ -1,9 +1,9 @@
 -- A list of calls.
-use Rattle.std.proofs.Common.{◌≡◌, ℕ, ◌+◌, ◌<◌, ◌≤◌, List, [], ◌∷◌, ◌++◌, map, length, get_or, take, sym, refl, ap, ◌∙◌, subst, arith}
+use Rattle.std.proofs.Common.{◌≡◌, ℕ, ◌+◌, ◌<◌, ◌≤◌, List, [], ◌∷◌, ◌++◌, map, length, get_or, take, sym, refl, ap, ◌∙◌, subst}
 use Rattle.std.proofs.lemmas.List.{take_more, take_all, map_push}
 use Rattle.shelf.specs.declared.entry.Entry.{Entry}
 use Rattle.sink.specs.Held.{Held, Prices}
-use Rattle.plainbook.specs.Plain.{Fun, meant}
+use Rattle.plainbook.specs.Plain.{Fun}
 use Rattle.plainbook.specs.Stands.{Stands, Moves, fed}
 use Rattle.plainbook.specs.Answers.{PlainAnswer, said_by, answer, after, final_of, answers_of}
 use Rattle.plainbook.specs.Claims.{Right}

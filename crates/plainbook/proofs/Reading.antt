@@ -1,10 +1,10 @@
 -- Reads through the book.
-use Rattle.std.proofs.Common.{◌≡◌, ℕ, zero, suc, ◌<◌, ◌≤◌, List, [], ◌∷◌, length, get_or, Some, None, Ok, Err, Option, Result, sym, refl, ap, ◌∙◌, arith}
+use Rattle.std.proofs.Common.{◌≡◌, ℕ, zero, suc, ◌<◌, ◌≤◌, List, [], ◌∷◌, length, get_or, Some, None, Ok, Err, Result, sym, ap, ◌∙◌, arith}
 use Rattle.refusal.specs.Told.{Told}
 use Rattle.refusal.specs.declared.Refusal.{Refusal}
 use Rattle.shelf.proofs.Items.{item_at_is, item_past}
 use Rattle.shelf.specs.Slots.{item_at}
-use Rattle.sink.specs.Held.{Read, beyond}
+use Rattle.sink.specs.Held.{Read}
 use Rattle.plainbook.specs.Refusals.{said}
 use Rattle.plainbook.specs.Plain.{or_beyond, read_at}
 

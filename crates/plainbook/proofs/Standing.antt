@@ -1,7 +1,7 @@
 -- From one standing to the next.
-use Rattle.std.proofs.Common.{◌≡◌, ℕ, suc, ◌+◌, ◌-◌, ◌<◌, ◌≤◌, List, [], ◌∷◌, ◌++◌, map, length, get_or, take, Some, None, Ok, Err, Option, Result, sym, refl, ap, ◌∙◌, subst, append_assoc, append-nil, arith}
-use Rattle.std.specs.List.{AllByRecursion as All}
-use Rattle.std.proofs.lemmas.List.{length-append, length-map, length_push, take_at, take-map, get_or_push, get_or-map}
+use Rattle.std.proofs.Common.{◌≡◌, ℕ, suc, ◌+◌, ◌-◌, ◌≤◌, List, [], ◌∷◌, ◌++◌, map, length, get_or, take, Some, None, Ok, Err, Result, sym, refl, ap, ◌∙◌, subst, append_assoc, append-nil, arith}
+use Rattle.std.specs.List.{AllByRecursion}
+use Rattle.std.proofs.lemmas.List.{length-map, length_push, take_at, take-map, get_or_push, get_or-map}
 use Rattle.refusal.specs.Told.{Told}
 use Rattle.sheet.specs.Accepted.{Accepted}
 use Rattle.shelf.specs.Slots.{item_at, numbers_of}
@@ -69,7 +69,7 @@ numbers_from i n (f ∷ fs) = ap (λ (ns : List ℕ). f.sheet.number ∷ ns) (nu
 pub numbers_are : (es : List Entry) (i n : ℕ) (fs : List Fun) → map plain_entry es ≡ entries_from i n fs → numbers_of es ≡ numbers fs
 numbers_are es i n fs e = numbers_map es ∙ ap (map (λ (x : PlainEntry). x.sheet.number)) e ∙ numbers_from i n fs
 
-all_front : (fs gs : List Fun) → All (λ (f : Fun). Accepted f.sheet) (fs ++ gs) → All (λ (f : Fun). Accepted f.sheet) fs
+all_front : (fs gs : List Fun) → AllByRecursion (λ (f : Fun). Accepted f.sheet) (fs ++ gs) → AllByRecursion (λ (f : Fun). Accepted f.sheet) fs
 all_front [] gs a = tt
 all_front (f ∷ fs) gs a = (a.0, all_front fs gs a.1)
 
@@ -85,7 +85,7 @@ record Ends (p : Prices) (r : ℕ) (h : Held) (es : List Entry) (q : List Fun) (
   fits : cost_of p (all_items q) + cost_of p (items_of f) ≤ r
   lists : map plain_entry (take (length es - 1) es) ≡ entries_from 0 0 q
   entry : plain_entry e ≡ entry_of (length (insts_in (all_items q))) (marks_in (all_items q)) f
-  accepted : All (λ (g : Fun). Accepted g.sheet) q
+  accepted : AllByRecursion (λ (g : Fun). Accepted g.sheet) q
 
 ends : (p : Prices) (r : ℕ) (h : Held) (es : List Entry) (q : List Fun) (f : Fun) (e : Entry) →
     Stands p r h es (q ++ f ∷ []) → Some e ≡ item_at es (length es - 1) → Ends p r h es q f e

@@ -5,7 +5,7 @@ use Rattle.machine.specs.Machine.{State, Core, LawfulCore, LandingPad, at, retur
 use Rattle.returns.specs.Notes.{EachNote, Holds, downward, note_count, saved_whole, pushes, defines, total}
 use Rattle.returns.specs.Premises.{need, Entry, Body, Lawful, last}
 use Rattle.returns.specs.Returns.{CameBack, opens}
-use Rattle.returns.specs.Trees.{Tree, Runs, body_at, epilogue_at, Fun as Placed, Stands as StandsIn}
+use Rattle.returns.specs.Trees.{Tree, Runs, body_at, Fun as Placed, Stands as StandsIn}
 use Rattle.sheet.specs.Saved.{saves, sets_up}
 use Rattle.shelf.specs.Slots.{item_at}
 use Rattle.shelf.specs.declared.entry.Entry.{Entry as Listed}

@@ -1,9 +1,9 @@
 -- The plain book: a list of functions, and what each call answers and makes of it.
-use Rattle.std.specs.Prelude.{ℕ, ◌+◌, Bool, cond, ◌||◌, List, [], ◌∷◌, ◌++◌, map, length, Some, None, Ok, Err, Option, Result, nat_le, nat_lt}
+use Rattle.std.specs.Prelude.{ℕ, ◌+◌, Bool, ◌||◌, List, [], ◌∷◌, ◌++◌, map, length, Some, None, Ok, Err, Option, Result, nat_le, nat_lt}
 use Rattle.a64.specs.declared.inst.Inst.{Inst}
 use Rattle.decoder.specs.Reading.{reading}
 use Rattle.frame.specs.Pieces.{prologue, epilogue}
-use Rattle.refusal.specs.Told.{Told, Row, first}
+use Rattle.refusal.specs.Told.{Told, first}
 use Rattle.sheet.specs.Plain.{PlainSheet}
 use Rattle.shelf.specs.Limits.{function_count}
 use Rattle.shelf.specs.Slots.{item_at, slot_for}

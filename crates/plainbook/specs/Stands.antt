@@ -1,6 +1,6 @@
 -- A book stands for a plain book.
 use Rattle.std.specs.Prelude.{◌≡◌, ℕ, ◌+◌, ◌*◌, ◌≤◌, List, [], ◌∷◌, map, length}
-use Rattle.std.specs.List.{AllByRecursion as All}
+use Rattle.std.specs.List.{AllByRecursion}
 use Rattle.frame.specs.Pieces.{prologue, epilogue}
 use Rattle.sheet.specs.Accepted.{Accepted}
 use Rattle.sheet.specs.Checks.{plain}
@@ -57,7 +57,7 @@ pub record Stands (p : Prices) (r : ℕ) (h : Held) (es : List Entry) (fs : List
   -- the functions are listed, each with its place and its counts
   pub lists : map plain_entry es ≡ entries_from 0 0 fs
   -- no refusal applies to a held function's sheet
-  pub accepted : All (λ (f : Fun). Accepted f.sheet) fs
+  pub accepted : AllByRecursion (λ (f : Fun). Accepted f.sheet) fs
 
 -- A call that answers x: of every plain book for which the book stands, this is the answer, and the book then stands for the next one.
 abbrev pub Moves : {X : Type 0} → Prices → Held → List Entry → Held → List Entry → (ℕ → List Fun → X) → (ℕ → List Fun → List Fun) → X → Type 0

@@ -1,6 +1,6 @@
 -- Laws of the ordered keys.
 use Rattle.std.proofs.Common.{◌≡◌, ℕ, zero, suc, ◌+◌, ◌<◌, ◌≤◌, Bool, true, false, cond, eqb, ltb, List, [], ◌∷◌, ◌++◌, length, get_or, take, drop, Some, None, Option, Less, Equal, Greater, sym, refl, ap, ◌∙◌, subst, append_assoc, append-nil, add-one, arith}
-use Rattle.std.specs.List.{remove, AllByRecursion as All}
+use Rattle.std.specs.List.{remove, AllByRecursion}
 use Rattle.std.specs.Ordering.{is_lt}
 use Rattle.std.proofs.ByRecursion.{All-weaker}
 use Rattle.std.proofs.lemmas.List.{drop_more, drop_all, take_more, take_all, length_push, length-map, length-take-le, map_push, take_at}
@@ -98,11 +98,11 @@ in_order ns = in_order_on 0 [] ns tt
 -- ---- looking up
 
 -- nothing is found where every number is above
-look_above : (n : ℕ) (ks : List Key) → All (λ (y : Key). n < y.number) ks → look_in n ks ≡ None
+look_above : (n : ℕ) (ks : List Key) → AllByRecursion (λ (y : Key). n < y.number) ks → look_in n ks ≡ None
 look_above n [] h = refl
 look_above n (y ∷ ys) h = cond-false _ _ _ (ne_eqb y.number n (λ e. let l = h.0 in omega arith)) ∙ look_above n ys h.1
 
-above : (n : ℕ) (x : Key) (ks : List Key) → n < x.number → All (λ (y : Key). below key_order y x ≡ false) ks → All (λ (y : Key). n < y.number) ks
+above : (n : ℕ) (x : Key) (ks : List Key) → n < x.number → AllByRecursion (λ (y : Key). below key_order y x ≡ false) ks → AllByRecursion (λ (y : Key). n < y.number) ks
 above n x ks lt h =
     All-weaker (λ (y : Key). below key_order y x ≡ false) (λ (y : Key). n < y.number)
     (λ y e. let l : x.number ≤ y.number = ltb-false y.number x.number (sym (below_ltb y x) ∙ e) in omega arith) ks h

@@ -1,11 +1,11 @@
 -- Laws of lists of items, and of putting them.
-use Rattle.std.proofs.Common.{◌≡◌, ℕ, zero, suc, ◌+◌, ◌-◌, ◌*◌, ◌<◌, ◌≤◌, cond, ltb, ◌⊎◌, List, [], ◌∷◌, ◌++◌, length, get_or, take, drop, Some, None, Ok, Err, Option, Result, sym, refl, ap, ◌∙◌, subst, inl, inr, append_assoc, append-nil, mul-le-mul_left, mul-zero, mul-one, mul-add, arith, MatchResult}
+use Rattle.std.proofs.Common.{◌≡◌, ℕ, zero, suc, ◌+◌, ◌-◌, ◌*◌, ◌<◌, ◌≤◌, ◌⊎◌, List, [], ◌∷◌, ◌++◌, length, get_or, take, drop, None, Ok, Err, Result, sym, refl, ap, ◌∙◌, subst, inl, inr, append_assoc, append-nil, mul-zero, mul-one, mul-add, arith, MatchResult}
 use Rattle.codec.specs.Unread.{unread}
 use Rattle.refusal.specs.Told.{told}
 use Rattle.refusal.specs.declared.Refusal.{Refusal}
 use Rattle.std.proofs.lemmas.List.{length-append, take_at, take_all, take_more, take-append-drop, drop_more, drop_all}
 use Rattle.std.proofs.lemmas.Bool.{le-ltb, cond-false}
-use Rattle.sink.specs.Held.{Held, IsReading, Prices, with_inst, with_note, note_at, rewound, stray, late, no_room_of}
+use Rattle.sink.specs.Held.{Held, IsReading, Prices, with_inst, with_note, rewound, stray, late, no_room_of}
 use Rattle.a64.specs.declared.inst.Inst.{Inst}
 use Rattle.sink.specs.declared.item.Item.{Item}
 use Rattle.notes.specs.declared.Note.{Note}

@@ -1,12 +1,9 @@
 -- SP by an amount.
-use Rattle.std.proofs.Common.{◌≡◌, ℕ, suc, ◌<◌, ◌≤◌, Bool, cond, eqb, List, [], ◌∷◌, ◌++◌, ℤ, pos, negsuc, nat_abs, Some, None, Option, sym, refl, ap, ◌∙◌, arith, eq-eqb, ne_eqb}
+use Rattle.std.proofs.Common.{◌≡◌, ℕ, Bool, cond, [], ℤ, pos, negsuc, nat_abs, Option, sym, ap, ◌∙◌, eq-eqb, ne_eqb}
 use Rattle.a64.specs.Operands.{imm12_of}
 use Rattle.a64.specs.declared.imm.Imm12.{Imm12}
 use Rattle.a64.specs.declared.inst.AddSub.{AddSub}
-use Rattle.a64.specs.declared.inst.Inst.{Inst}
-use Rattle.a64.specs.declared.inst.Inst.TheVariants.{AddSubImm, AddSubExt}
-use Rattle.steps.specs.Forms.{sp, spilltmp}
-use Rattle.steps.specs.Adjust.{load_constant_of, sp_by_of, sp_by_imm, gen_sp_reg_adjust_of}
+use Rattle.steps.specs.Adjust.{sp_by_of, sp_by_imm, gen_sp_reg_adjust_of}
 use Rattle.steps.specs.Small.{op_of}
 
 pub sp_none : (op : AddSub) (n : ℕ) → n ≡ 0 → [] ≡ sp_by_of op n

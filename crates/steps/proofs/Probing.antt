@@ -1,8 +1,7 @@
 -- Probes, one by one or in a loop.
-use Rattle.std.proofs.Common.{◌≡◌, ℕ, zero, suc, ◌+◌, ◌-◌, ◌*◌, ◌/◌, ◌<◌, ◌≤◌, Bool, cond, eqb, leb, List, [], ◌∷◌, ◌++◌, sym, refl, ap, ◌∙◌, arith, eq-eqb, ne_eqb, le-leb}
+use Rattle.std.proofs.Common.{◌≡◌, ℕ, suc, ◌+◌, ◌-◌, ◌*◌, ◌/◌, ◌<◌, ◌≤◌, Bool, cond, leb, List, [], ◌∷◌, ◌++◌, sym, refl, ap, ◌∙◌, arith, eq-eqb, ne_eqb, le-leb}
 use borrow.Author.Tests.{lt-leb}
 use Rattle.a64.specs.declared.inst.AddSub.{AddSub}
-use Rattle.a64.specs.declared.inst.Inst.{Inst}
 use Rattle.sink.specs.declared.item.Item.{Item}
 use Rattle.steps.specs.Forms.{probe_sp}
 use Rattle.item_list.specs.Items.{code}

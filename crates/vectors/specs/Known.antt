@@ -1,6 +1,6 @@
 -- Words that assemblers write for each form, with the instruction that each reads as, and words that read as `Other`.
-use Rattle.std.specs.Prelude.{◌≡◌, ℕ, true, false, List, [], ◌∷◌, pos, negsuc}
-use Rattle.std.specs.List.{AllByRecursion as All}
+use Rattle.std.specs.Prelude.{ℕ, true, false, List, [], ◌∷◌, pos, negsuc}
+use Rattle.std.specs.List.{AllByRecursion}
 use Rattle.a64.specs.Words.{Reads}
 use Rattle.a64.specs.declared.inst.Reg.{Reg}
 use Rattle.a64.specs.declared.inst.AddSub.{AddSub}
@@ -100,4 +100,4 @@ others =
 
 -- Every one of them reads as is written here.
 abbrev pub Known-words : Type 0
-Known-words = All (λ k. Reads k.bits k.inst) named × All (λ w. Reads w (Other w)) others
+Known-words = AllByRecursion (λ k. Reads k.bits k.inst) named × AllByRecursion (λ w. Reads w (Other w)) others

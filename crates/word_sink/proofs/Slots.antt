@@ -1,5 +1,5 @@
 -- Instructions and notes in a row of cells, and what one write leaves of them.
-use Rattle.std.proofs.Common.{◌≡◌, ℕ, zero, suc, ◌+◌, ◌-◌, ◌*◌, ◌/◌, ◌%◌, ◌<◌, ◌≤◌, ◌≢◌, List, [], ◌∷◌, ◌++◌, map, length, get_or, take, drop, set, Some, None, Option, sym, refl, ap, ◌∙◌, subst, arith}
+use Rattle.std.proofs.Common.{◌≡◌, ℕ, zero, suc, ◌+◌, ◌-◌, ◌*◌, ◌/◌, ◌<◌, ◌≤◌, ◌≢◌, List, [], ◌∷◌, ◌++◌, map, length, get_or, take, drop, set, Some, None, sym, refl, ap, ◌∙◌, subst, arith}
 use Rattle.a64.specs.Words.{Reads}
 use Rattle.a64.specs.declared.inst.Inst.{Inst}
 use Rattle.decoder.specs.Reading.{reading}
@@ -11,7 +11,7 @@ use Rattle.std.proofs.lemmas.List.{get_or-set_same, get_or-set_other, length-set
 use Rattle.notes.proofs.Backs.{note_back}
 use Rattle.sink.proofs.Strays.{stray_here, stray_on, stray_none}
 use Rattle.word_sink.specs.Cells.{note_of, note_base, insts_of, notes_of, cells_held, noted}
-use Rattle.sink.specs.Held.{Held, with_inst, with_note, note_at, rewound, stray, late}
+use Rattle.sink.specs.Held.{with_inst, with_note, note_at, rewound, stray, late}
 use Rattle.notes.specs.Notes.{inst_from_of, note_from_of, parts_of}
 use Rattle.notes.specs.declared.Note.{Note}
 use Rattle.notes.specs.declared.Parts.{Parts}

@@ -1,8 +1,7 @@
 -- The definitions, computed: words and notes of sheets and pieces worked out elsewhere.
-use Prim.Native.Nat.{ℕ}
 use mathlib.Core.Path.{◌≡◌, refl}
 use mathlib.Core.Bool.{true, false}
-use mathlib.Core.List.{List, [], ◌∷◌, map}
+use mathlib.Core.List.{[], ◌∷◌, map}
 use lib.IntN.{pos, negsuc}
 use Rattle.a64.specs.Words.{word}
 use Rattle.sheet.specs.Plain.{PlainSheet}

@@ -7,7 +7,6 @@ use Rattle.sheet.specs.declared.types.CallConv.{CallConv}
 use Rattle.sheet.specs.declared.types.FunctionCalls.{FunctionCalls}
 use Rattle.sheet.specs.declared.types.Flags.{Flags}
 use Rattle.sheet.specs.declared.types.Sizes.{Sizes}
-use Rattle.notes.specs.declared.Note.{Note}
 use Rattle.notes.specs.declared.UnwindInst.TheVariants.{DefineNewFrame, SaveReg}
 use Rattle.sink.specs.Items.{insts_in, notes_from}
 use Rattle.frame.specs.Pieces.{epilogue, gen_clobber_save_of, prologue}

@@ -1,4 +1,4 @@
-use Rattle.std.proofs.Common.{◌≡◌, subst, arith, rules}
+use Rattle.std.proofs.Common.{rules}
 use Rattle.plainbook.proofs.Counting.{counted_none, counted_inst, counted_note, counted_all}
 use Rattle.book.proofs.limits.count_items.Goals as goal
 use Rattle.book.proofs.limits.count_items.Goals.{in-Inst, in-Note}

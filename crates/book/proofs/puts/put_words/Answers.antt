@@ -1,4 +1,3 @@
-use Rattle.std.proofs.Common.{◌≡◌, ap, ◌∙◌, arith, rules}
 use Rattle.sink.proofs.Items.{not_refused}
 use Rattle.plainbook.specs.Plain.{priced}
 use Rattle.plainbook.proofs.Pieces.{word_more, word_all, word_fits}

@@ -1,4 +1,4 @@
-use Rattle.std.proofs.Common.{◌≡◌, true, false, ◌∙◌, arith}
+use Rattle.std.proofs.Common.{◌∙◌, arith}
 use Rattle.item_list.specs.Items.{code}
 use Rattle.steps.specs.Probes.{gen_inline_probestack_of}
 use Rattle.emit.proofs.Good.{probes_good}

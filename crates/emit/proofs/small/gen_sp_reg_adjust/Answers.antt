@@ -1,6 +1,6 @@
-use Rattle.std.proofs.Common.{◌≡◌, List, ℤ, ap, ◌∙◌, subst, arith, w32, to_z, of_z, rules}
+use Rattle.std.proofs.Common.{◌≡◌, ℤ, ap, ◌∙◌, arith, w32, to_z, of_z, rules}
 use Rattle.item_list.specs.Items.{code}
-use Rattle.item_list.specs.Lists.{listed, joined, Puts}
+use Rattle.item_list.specs.Lists.{listed, joined}
 use Rattle.steps.specs.Adjust.{gen_sp_reg_adjust_of}
 use Rattle.emit.proofs.Good.{adjust_good}
 use Rattle.emit.proofs.Whole.{put_piece}

@@ -1,4 +1,4 @@
-use Rattle.std.proofs.Common.{◌≤◌, length, arith}
+use Rattle.std.proofs.Common.{arith}
 use Rattle.item_list.specs.Items.{code}
 use Rattle.steps.specs.Adjust.{load_constant_of}
 use Rattle.emit.proofs.Good.{constant_short}

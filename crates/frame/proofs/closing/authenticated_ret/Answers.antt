@@ -1,5 +1,4 @@
-use Rattle.std.proofs.Common.{◌≡◌, Bool, cond, List, [], ◌∷◌, ap}
-use Rattle.a64.specs.declared.inst.Inst.{Inst}
+use Rattle.std.proofs.Common.{Bool, cond, [], ◌∷◌, ap}
 use Rattle.a64.specs.declared.inst.Inst.TheVariants.{Auti, Ret, RetAuth}
 use Rattle.item_list.specs.Items.{code}
 use Rattle.frame.specs.Pieces.{authenticated_ret_of}

@@ -1,4 +1,4 @@
-use Rattle.std.proofs.Common.{◌++◌, ap}
+use Rattle.std.proofs.Common.{ap}
 use Rattle.a64.specs.declared.inst.AddSub.{AddSub}
 use Rattle.layout.specs.Slots.{slots_of}
 use Rattle.sheet.specs.Checks.{plain}

@@ -1,4 +1,4 @@
-use Rattle.std.proofs.Common.{ℕ, Bool, cond, List, [], ◌∷◌, ◌++◌, sym, ap}
+use Rattle.std.proofs.Common.{ℕ, Bool, cond, [], ◌∷◌, ◌++◌, ap}
 use Rattle.a64.specs.declared.inst.PairClass.{PairClass}
 use Rattle.sheet.specs.Checks.{plain}
 use Rattle.sheet.specs.Saved.{setup_size}

@@ -1,4 +1,4 @@
-use Rattle.std.proofs.Common.{◌≡◌, ◌/◌, ◌<◌, ◌≤◌, length, arith}
+use Rattle.std.proofs.Common.{◌/◌, ◌≤◌, length, arith}
 use Rattle.layout.specs.Slots.{slots_of}
 use Rattle.sheet.specs.Checks.{plain}
 use Rattle.item_list.specs.Lists.{listed, joined}

@@ -1,4 +1,4 @@
-use Rattle.std.proofs.Common.{◌≡◌, ◌%◌, ap, ◌∙◌}
+use Rattle.std.proofs.Common.{◌≡◌, ap, ◌∙◌}
 use Rattle.notes.proofs.Backs.{words_back}
 use Rattle.notes.specs.Notes.{parts_of}
 use Rattle.notes.specs.declared.Note.{Note}

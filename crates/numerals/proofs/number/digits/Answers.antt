@@ -1,5 +1,5 @@
 use Rattle.std.proofs.lemmas.Bool.{eqb-false}
-use Rattle.numerals.proofs.Written.{Sofar, one_more, too_long, all_read}
+use Rattle.numerals.proofs.Written.{one_more, too_long, all_read}
 use Rattle.numerals.proofs.number.digits.Goals as goal
 use Rattle.std.proofs.Common.{sym, refl, arith, lit<}
 

@@ -1,4 +1,4 @@
-use Rattle.std.proofs.Common.{◌≡◌, sym, arith}
+use Rattle.std.proofs.Common.{sym, arith}
 use Rattle.std.proofs.lemmas.Bool.{le-leb, lt-leb}
 use Rattle.sink.proofs.Items.{cost_rest_inst, cost_rest_note, cost_rest_none}
 use Rattle.sink.proofs.item.affordable.Goals as goal

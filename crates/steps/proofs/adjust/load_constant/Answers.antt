@@ -1,4 +1,4 @@
-use Rattle.std.proofs.Common.{◌≡◌, ℕ, ◌+◌, ◌<◌, Bool, false, List, sym, ap, ◌∙◌, arith}
+use Rattle.std.proofs.Common.{◌≡◌, ◌+◌, ◌<◌, Bool, false, List, sym, ap, ◌∙◌, arith}
 use Rattle.sink.specs.declared.item.Item.{Item}
 use Rattle.item_list.specs.Items.{code}
 use Rattle.item_list.specs.Lists.{listed, joined}

@@ -1,5 +1,4 @@
-use Rattle.std.proofs.Common.{◌≡◌, List, [], ◌∷◌, ◌++◌, Some, None, ap}
-use Rattle.a64.specs.declared.inst.Inst.{Inst}
+use Rattle.std.proofs.Common.{[], ◌∷◌, ◌++◌, Some, None, ap}
 use Rattle.a64.specs.declared.inst.Inst.TheVariants.{AddSubImm, AddSubExt}
 use Rattle.steps.specs.Forms.{sp, spilltmp}
 use Rattle.item_list.specs.Items.{code}

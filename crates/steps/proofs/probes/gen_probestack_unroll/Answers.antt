@@ -1,4 +1,3 @@
-use Rattle.std.proofs.Common.{refl}
 use Rattle.item_list.specs.Items.{code}
 use Rattle.item_list.specs.Lists.{listed, joined}
 use Rattle.steps.specs.Probes.{probe_each}

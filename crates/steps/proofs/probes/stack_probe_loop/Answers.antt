@@ -1,6 +1,5 @@
-use Rattle.std.proofs.Common.{List, [], ◌∷◌, ◌++◌, negsuc, Some, None, ap}
+use Rattle.std.proofs.Common.{[], ◌∷◌, negsuc, Some, ap}
 use Rattle.a64.specs.Operands.{imm12_of}
-use Rattle.a64.specs.declared.inst.Inst.{Inst}
 use Rattle.a64.specs.declared.inst.Inst.TheVariants.{BGt}
 use Rattle.sink.specs.declared.item.Item.{Item}
 use Rattle.steps.specs.Forms.{step_down, probe_below, compare_end}

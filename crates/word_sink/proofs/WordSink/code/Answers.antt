@@ -1,4 +1,4 @@
-use Rattle.std.proofs.Common.{◌≡◌, map, take, vec_items, ap, arith, rules}
+use Rattle.std.proofs.Common.{map, ap, rules}
 use Rattle.decoder.specs.Reading.{reading}
 use Rattle.word_sink.specs.Cells.{insts_of}
 use Rattle.word_sink.proofs.WordSink.code.Goals as goal

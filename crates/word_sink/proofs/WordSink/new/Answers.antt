@@ -1,4 +1,4 @@
-use Rattle.std.proofs.Common.{◌≡◌, refl, rules}
+use Rattle.std.proofs.Common.{rules}
 use Rattle.word_sink.specs.Cells.{insts_of, notes_of}
 use Rattle.word_sink.proofs.WordSink.new.Goals as goal
 

@@ -3,11 +3,11 @@ use Rattle.refusal.specs.Told.{Told}
 use Rattle.sheet.specs.Checks.{plain}
 use Rattle.shelf.specs.Listed.{listed}
 use Rattle.shelf.specs.Slots.{numbers_of}
-use Rattle.sink.specs.Held.{Held, Prices, no_room_of}
+use Rattle.sink.specs.Held.{no_room_of}
 use Rattle.sink.specs.Items.{cost_of, insts_in, marks_in}
 use Rattle.sink.specs.declared.item.Item.{Item}
 use Rattle.sink.specs.declared.sink.Counts.{Counts}
-use Rattle.plainbook.specs.Plain.{Fun, priced, fun, items_of, is_full}
+use Rattle.plainbook.specs.Plain.{priced, fun, items_of, is_full}
 use Rattle.plainbook.proofs.Adding.{why_taken, why_full, why_dear, why_none, full_count, full_insts, full_notes, not_full, entry_is}
 use Rattle.plainbook.proofs.Pieces.{price_is, marks_fun}
 use Rattle.book.proofs.book.Book.admit.Goals as goal

@@ -1,4 +1,4 @@
-use Rattle.std.proofs.Common.{◌≡◌, ap}
+use Rattle.std.proofs.Common.{ap}
 use Rattle.sink.specs.Held.{Held}
 use Rattle.plainbook.proofs.Reading.{read_right}
 use Rattle.book.proofs.book.Book.inst_at.Goals as goal

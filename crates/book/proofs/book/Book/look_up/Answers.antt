@@ -1,4 +1,4 @@
-use Rattle.std.proofs.Common.{◌≡◌, ap, ◌∙◌}
+use Rattle.std.proofs.Common.{ap, ◌∙◌}
 use Rattle.shelf.specs.Slots.{slot_for}
 use Rattle.plainbook.proofs.Standing.{numbers_are}
 use Rattle.book.proofs.book.Book.look_up.Goals as goal

@@ -1,4 +1,4 @@
-use Rattle.std.proofs.Common.{◌≡◌, ℕ, Err, Result, sym, refl, ap, ◌∙◌, arith, rules}
+use Rattle.std.proofs.Common.{◌≡◌, ℕ, Err, refl, ap, ◌∙◌, arith, rules}
 use Rattle.refusal.specs.Told.{Told}
 use Rattle.plainbook.specs.Plain.{priced}
 use Rattle.plainbook.proofs.Claiming.{claimed}

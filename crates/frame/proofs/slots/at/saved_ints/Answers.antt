@@ -1,4 +1,4 @@
-use Rattle.std.proofs.Common.{◌≡◌, ◌≤◌, length, ◌∙◌, arith, rules}
+use Rattle.std.proofs.Common.{◌≤◌, length, ◌∙◌, rules}
 use Rattle.sheet.specs.Checks.{plain}
 use Rattle.frame.proofs.SlotLaws.{ints_within, ints_part}
 use Rattle.frame.proofs.slots.at.saved_ints.Goals as goal

@@ -1,4 +1,4 @@
-use Rattle.std.proofs.Common.{◌≡◌, ℕ, ◌+◌, ◌/◌, ◌%◌, List, length, arith}
+use Rattle.std.proofs.Common.{◌+◌, ◌/◌, ◌%◌, length, arith}
 use Rattle.layout.specs.Slots.{twos_d, each_q}
 use Rattle.sheet.specs.Checks.{plain}
 use Rattle.sheet.specs.Saved.{saved_vecs_of}

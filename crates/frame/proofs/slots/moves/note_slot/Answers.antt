@@ -1,5 +1,5 @@
-use Rattle.std.proofs.Common.{◌+◌, ◌++◌, sym, ap}
-use Rattle.layout.specs.Slots.{pair_x, pair_d, one_q}
+use Rattle.std.proofs.Common.{◌+◌, sym, ap}
+use Rattle.layout.specs.Slots.{pair_x, pair_d}
 use Rattle.sheet.specs.Checks.{plain}
 use Rattle.notes.specs.declared.UnwindInst.TheVariants.{SaveReg}
 use Rattle.frame.specs.Pieces.{noting, slot_notes}

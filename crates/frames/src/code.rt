@@ -1,5 +1,5 @@
 // What the pieces of a frame put on a word sink, in lines.
-use crate::notes::InWords;
+use crate::note_words::InWords;
 use crate::sheet_words::SheetWords;
 use a64::inst::Reg;
 use asm::Asm;

@@ -4,13 +4,13 @@
 mod assembler;
 mod books;
 mod code;
-mod codes;
+mod code_lists;
 mod command;
-mod notes;
+mod note_words;
 mod sheet_words;
 mod show;
 
-use crate::codes::{Codes, Names};
+use crate::code_lists::{Codes, Names};
 use a64::inst::Inst;
 use asm::Asm;
 use books::Part;

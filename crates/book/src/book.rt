@@ -13,11 +13,10 @@ ghost use Rattle.shelf.specs.Listed.{listed};
 ghost use Rattle.shelf.specs.Slots.{item_at, numbers_of};
 ghost use Rattle.sink.specs.Held.{counts_of};
 
-use crate::items::items_of;
+use crate::items::{epilogue_items, prologue_items};
 use crate::limits::{count_items, empty_book, number_held, past, too_many};
 use crate::puts::put_function;
 use a64::inst::Inst;
-use frame::piece::Piece;
 use layout::compute_frame_layout;
 use notes::Note;
 use refusal::Refusal;
@@ -145,8 +144,8 @@ impl<S: Sink> Book<S> {
     {
         let checked = check(sheet)?;
         let layout = compute_frame_layout(checked);
-        let prologue = items_of(Piece::Prologue, &layout);
-        let epilogue = items_of(Piece::Epilogue, &layout);
+        let prologue = prologue_items(&layout);
+        let epilogue = epilogue_items(&layout);
         let entry = self.admit(checked, prologue.as_slice(), body, epilogue.as_slice())?;
         let slot = self.shelf.len();
         put_function(

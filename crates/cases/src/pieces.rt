@@ -1,6 +1,6 @@
 // Cases of frames: what a piece puts on a word sink, word by word.
 use crate::sheets::with_layout;
-use emitter::Emitter;
+use emit::{pieces, small};
 use layout::FrameLayout;
 use numerals::number;
 use sink::sink::Sink;
@@ -49,7 +49,7 @@ fn same_number(words: &mut Words<'_>, n: u32) -> bool {
 
 // The numbers that are left are the notes' words, three to a note.
 fn same_notes(sink: &WordSink, words: &mut Words<'_>) -> bool {
-    for i in 0..sink.counts().notes {
+    for i in 0..sink.note_count() {
         let Ok(note) = sink.note_at(i) else {
             return false;
         };
@@ -71,13 +71,12 @@ fn puts(
     l: &FrameLayout,
     words: &mut Words<'_>,
 ) -> Result<bool, AllocError> {
-    let mut emitter = Emitter::new();
     let mut sink = WordSink::new(heap, ROOM)?;
     let put = match piece {
-        Piece::Prologue => emitter.put_prologue(l, &mut sink),
-        Piece::Epilogue => emitter.put_epilogue(l, &mut sink),
-        Piece::Save => emitter.gen_clobber_save(l, &mut sink),
-        Piece::Notes => emitter.put_prologue(l, &mut sink),
+        Piece::Prologue => pieces::put_prologue(l, &mut sink),
+        Piece::Epilogue => pieces::put_epilogue(l, &mut sink),
+        Piece::Save => pieces::gen_clobber_save(l, &mut sink),
+        Piece::Notes => pieces::put_prologue(l, &mut sink),
     };
     if put.is_err() {
         return Ok(false);
@@ -108,7 +107,7 @@ pub fn adjusted(heap: Global, words: &mut Words<'_>) -> Result<bool, AllocError>
         return Ok(false);
     };
     let mut sink = WordSink::new(heap, ROOM)?;
-    match Emitter::new().gen_sp_reg_adjust(amount, &mut sink) {
+    match small::gen_sp_reg_adjust(amount, &mut sink) {
         Ok(_) => Ok(same_code(sink.code(), words)),
         Err(_) => Ok(false),
     }
@@ -127,7 +126,7 @@ pub fn probed(heap: Global, words: &mut Words<'_>) -> Result<bool, AllocError> {
         return Ok(false);
     };
     let mut sink = WordSink::new(heap, ROOM)?;
-    match Emitter::new().gen_inline_probestack(size, guard, &mut sink) {
+    match small::gen_inline_probestack(size, guard, &mut sink) {
         Ok(_) => Ok(same_code(sink.code(), words)),
         Err(_) => Ok(false),
     }

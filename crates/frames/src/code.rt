@@ -52,7 +52,7 @@ pub fn write_note(out: &mut impl Write, note: Note) -> io::Result<()> {
 }
 
 fn write_notes(out: &mut impl Write, sink: &WordSink) -> io::Result<()> {
-    for i in 0..sink.counts().notes {
+    for i in 0..sink.note_count() {
         match sink.note_at(i) {
             Ok(note) => write_note(out, note)?,
             Err(_) => {}
@@ -137,8 +137,8 @@ pub fn counts_of(heap: Global, words: &SheetWords) -> Result<(usize, usize, usiz
     let _ = emitter.put_prologue(&l, &mut opening);
     let _ = emitter.put_epilogue(&l, &mut closing);
     Ok((
-        opening.counts().insts,
-        closing.counts().insts,
-        opening.counts().notes,
+        opening.inst_count(),
+        closing.inst_count(),
+        opening.note_count(),
     ))
 }

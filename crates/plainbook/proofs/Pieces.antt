@@ -1,13 +1,16 @@
 -- A function's items as they are put.
-use Rattle.std.proofs.Common.{◌≡◌, ℕ, zero, suc, ◌+◌, ◌-◌, ◌*◌, ◌<◌, ◌≤◌, List, [], ◌∷◌, ◌++◌, length, get_or, take, sym, refl, ap, ◌∙◌, mul-le-mul_left, mul-zero, arith}
+use Rattle.std.proofs.Common.{◌≡◌, ℕ, zero, suc, ◌+◌, ◌-◌, ◌*◌, ◌<◌, ◌≤◌, ◌⊎◌, List, [], ◌∷◌, ◌++◌, length, get_or, take, sym, refl, ap, ◌∙◌, inl, inr, mul-le-mul_left, mul-zero, arith}
 use Rattle.std.proofs.lemmas.List.{map_more, take_all}
 use Rattle.a64.specs.declared.inst.Inst.{Inst}
 use Rattle.decoder.specs.Reading.{reading}
+use Rattle.codec.specs.Unread.{unread}
 use Rattle.frame.specs.Pieces.{prologue, epilogue}
+use Rattle.refusal.specs.Told.{told}
+use Rattle.refusal.specs.declared.Refusal.{Refusal}
 use Rattle.sheet.specs.Plain.{PlainSheet}
 use Rattle.sink.proofs.Items.{with_append, with_code, cost_append, cost_code, length_insts_append, marks_append}
-use Rattle.sink.specs.Held.{Held, Prices, with_inst}
-use Rattle.sink.specs.Items.{insts_in, marks_in, cost_of, with_items}
+use Rattle.sink.specs.Held.{Held, Prices, with_inst, no_room_of}
+use Rattle.sink.specs.Items.{AllRead, insts_in, marks_in, cost_of, with_items}
 use Rattle.sink.specs.declared.item.Item.{Item}
 use Rattle.plainbook.specs.Plain.{fun, reading_of, body_of, items_of}
 
@@ -68,6 +71,12 @@ word_fits p h h1 ws k lt e le =
     omega arith
 
 -- ---- the three parts
+
+-- neither row of refused items applies to readings that there is room for
+pub items_taken : (p : Prices) (room : ℕ) (xs : List Item) (e : Refusal) → AllRead xs → cost_of p xs ≤ room →
+    ((AllRead xs → ⊥) × (told e ≡ unread)) ⊎ (AllRead xs × (room < cost_of p xs) × (told e ≡ no_room_of room)) → ⊥
+items_taken p room xs e r le (inl q) = q.0 r
+items_taken p room xs e r le (inr q) = omega (arith, q.1)
 
 cost_three : (p : Prices) (a b c : List Item) → cost_of p (a ++ (b ++ c)) ≡ cost_of p a + (cost_of p b + cost_of p c)
 cost_three p a b c = cost_append p a (b ++ c) ∙ ap (λ (n : ℕ). cost_of p a + n) (cost_append p b c)

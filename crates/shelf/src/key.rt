@@ -1,4 +1,5 @@
 // A function's number with its slot. Keys go by their numbers.
+ghost use Rattle.std.specs.Prelude.{◌≡◌, ◌↔◌, IsTrue};
 ghost use Rattle.std.specs.Ordering.{nat_cmp, on, as_partial_cmp};
 ghost use Rattle.std.specs.Cmp.Rules.{comparing};
 ghost use Rattle.std.proofs.Common.{rules};
@@ -42,5 +43,14 @@ impl Ord for Key {
         } else {
             Ordering::Equal
         }
+    }
+}
+
+impl Key {
+    // Whether number and slot are both the same: `==` goes by the number alone.
+    pub fn is_same(&self, other: &Key) -> bool
+        ensures { IsTrue result ↔ (self.now ≡ other.now) }
+    {
+        self.number == other.number && self.slot == other.slot
     }
 }

@@ -2,7 +2,7 @@
 use crate::imm::{Imm12, MoveWideConst, SImm7Scaled, SImm9, UImm12Scaled};
 
 // A register by its number in a word, 0 to 31. The form says whether it is xN, vN, SP or the zero register.
-#[derive(Clone, Copy)]
+#[derive(Clone, Copy, PartialEq, Eq)]
 pub struct Reg {
     pub enc: u8,
 }
@@ -22,26 +22,26 @@ impl Reg {
     pub const ZERO: Reg = Reg { enc: 31 };
 }
 
-#[derive(Clone, Copy)]
+#[derive(Clone, Copy, PartialEq, Eq)]
 pub enum AddSub {
     Add,
     Sub,
 }
 
-#[derive(Clone, Copy)]
+#[derive(Clone, Copy, PartialEq, Eq)]
 pub enum Dir {
     Store,
     Load,
 }
 
 // Whether a pair is of X registers or of the low halves of vectors.
-#[derive(Clone, Copy)]
+#[derive(Clone, Copy, PartialEq, Eq)]
 pub enum PairClass {
     X,
     D,
 }
 
-#[derive(Clone, Copy)]
+#[derive(Clone, Copy, PartialEq, Eq)]
 pub enum PairMode {
     Pre,
     Post,
@@ -49,41 +49,41 @@ pub enum PairMode {
 }
 
 // An X register, the low half of a vector, or a whole vector.
-#[derive(Clone, Copy)]
+#[derive(Clone, Copy, PartialEq, Eq)]
 pub enum Class {
     X,
     D,
     Q,
 }
 
-#[derive(Clone, Copy)]
+#[derive(Clone, Copy, PartialEq, Eq)]
 pub enum Mode {
     Pre,
     Post,
 }
 
-#[derive(Clone, Copy)]
+#[derive(Clone, Copy, PartialEq, Eq)]
 pub enum MoveWideOp {
     MovZ,
     MovK,
 }
 
 // A key of pointer authentication.
-#[derive(Clone, Copy)]
+#[derive(Clone, Copy, PartialEq, Eq)]
 pub enum Key {
     A,
     B,
 }
 
 // What a return address is sealed with besides the key.
-#[derive(Clone, Copy)]
+#[derive(Clone, Copy, PartialEq, Eq)]
 pub enum Modifier {
     Zero,
     Sp,
 }
 
 // A key with its modifier: AZ, ASP, BZ or BSP.
-#[derive(Clone, Copy)]
+#[derive(Clone, Copy, PartialEq, Eq)]
 pub struct ApiKey {
     pub key: Key,
     pub modifier: Modifier,

@@ -7,50 +7,51 @@ ghost use Rattle.std.specs.Prelude.{◌≡◌, Some};
 
 use std::fmt;
 
-#[derive(Clone, Copy)]
+// Each has the number by which our documents and formats name it.
+#[derive(Clone, Copy, PartialEq, Eq)]
 pub enum Cause {
     // Convention, call kind or flag bit out of range.
-    OutOfRange,
+    OutOfRange = 1,
     // A parameter is a dynamic vector.
-    DynamicVector,
+    DynamicVector = 2,
     // A clobber code names no register that a function may clobber.
-    CodeNotAllowed,
+    CodeNotAllowed = 3,
     // A clobber code stands at an earlier position too.
-    CodeRepeated,
+    CodeRepeated = 4,
     // A size is no multiple of 16, or the sizes' sum is too large.
-    Sizes,
+    Sizes = 5,
     // The tail size does not go with the incoming size.
-    TailSize,
+    TailSize = 6,
     // Winch with incoming arguments would check a sealed address with another SP.
-    WinchSeal,
+    WinchSeal = 7,
     // Compact unwinding saves by pairs and could save the pinned register.
-    CompactPinned,
+    CompactPinned = 8,
     // The guard size cannot serve the probes.
-    Guard,
+    Guard = 9,
     // A function with this number is held already.
-    NumberHeld,
+    NumberHeld = 10,
     // Too many functions, instructions or notes.
-    TooMany,
+    TooMany = 11,
     // The instruction is no word's reading.
-    NoReading,
+    NoReading = 12,
     // The price is above the room.
-    NoRoom,
+    NoRoom = 13,
     // A read or a rewind beyond what is held.
-    NotHeld,
+    NotHeld = 14,
     // A withdrawal from an empty book.
-    EmptyBook,
+    EmptyBook = 15,
 }
 
-// The part of the repository that found a cause.
-#[derive(Clone, Copy)]
+// The part of the repository that found a cause: sheets, words and sinks, or books.
+#[derive(Clone, Copy, PartialEq, Eq)]
 pub enum Layer {
-    Sheet,
-    Sink,
-    Book,
+    Sheet = 1,
+    Sink = 2,
+    Book = 3,
 }
 
 // The place is a position, an index, a slot or a room, by the cause; 0 where there is none.
-#[derive(Clone, Copy)]
+#[derive(Clone, Copy, PartialEq, Eq)]
 pub struct Refusal {
     pub cause: Cause,
     pub layer: Layer,
@@ -58,27 +59,11 @@ pub struct Refusal {
 }
 
 impl Cause {
-    // The number by which our documents and formats name the cause.
+    // The cause's number.
     pub fn number(self) -> u8
         ensures { result ≡ number_of self }
     {
-        match self {
-            Cause::OutOfRange => 1,
-            Cause::DynamicVector => 2,
-            Cause::CodeNotAllowed => 3,
-            Cause::CodeRepeated => 4,
-            Cause::Sizes => 5,
-            Cause::TailSize => 6,
-            Cause::WinchSeal => 7,
-            Cause::CompactPinned => 8,
-            Cause::Guard => 9,
-            Cause::NumberHeld => 10,
-            Cause::TooMany => 11,
-            Cause::NoReading => 12,
-            Cause::NoRoom => 13,
-            Cause::NotHeld => 14,
-            Cause::EmptyBook => 15,
-        }
+        self as u8
     }
 
     // The cause in words.
@@ -110,11 +95,7 @@ impl Layer {
     pub fn number(self) -> u8
         ensures { result ≡ layer_number self }
     {
-        match self {
-            Layer::Sheet => 1,
-            Layer::Sink => 2,
-            Layer::Book => 3,
-        }
+        self as u8
     }
 }
 

@@ -31,12 +31,9 @@ pub fn encode(i: Inst) -> Result<u32, Refusal>
     ensures gives { (w : ℕ) → Reads w i → result ≡ Ok w }
     ensures only { MatchResult result (λ w. Reads w i) (λ e. (told e ≡ unread) × ((w : ℕ) → Reads w i → ⊥)) }
 {
-    match word_of(i) {
-        Some(w) => Ok(w),
-        None => Err(Refusal {
-            cause: Cause::NoReading,
-            layer: Layer::Sink,
-            place: 0,
-        }),
-    }
+    word_of(i).ok_or(Refusal {
+        cause: Cause::NoReading,
+        layer: Layer::Sink,
+        place: 0,
+    })
 }

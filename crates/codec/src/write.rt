@@ -1,12 +1,46 @@
 // The writer: one small writer for each form, field by field from bit 31 down.
-ghost use Rattle.a64.specs.Words.{Formed, word};
+ghost use Rattle.a64.specs.Words.{Formed, Numbered, after, key_bit as key_bit_of, load_bit as load_bit_of, sp_bit, word};
 ghost use Rattle.codec.specs.Writes.{Writes};
-ghost use Rattle.std.specs.Prelude.{◌≡◌};
+ghost use Rattle.std.specs.Prelude.{◌≡◌, ◌<◌, ◌^◌, [], ◌∷◌, MatchOption};
 
 use crate::bits::{join, raw};
 use a64::imm::*;
 use a64::inst::*;
 use decoder::clash::{pair_clash, single_clash};
+
+// The bits by which a word tells its direction and its key.
+fn load_bit(dir: Dir) -> u32
+    ensures { result ≡ load_bit_of dir }
+{
+    match dir {
+        Dir::Store => 0,
+        Dir::Load => 1,
+    }
+}
+
+fn key_bit(key: Key) -> u32
+    ensures { result ≡ key_bit_of key }
+{
+    match key {
+        Key::A => 0,
+        Key::B => 1,
+    }
+}
+
+// A form of three registers: its head, three bits, and the six bits before rn.
+fn by_registers(head: u32, kind: u32, option: u32, rd: Reg, rn: Reg, rm: Reg) -> Option<u32>
+    requires { (head < 256) × ((kind < 8) × (option < 64)) }
+    ensures { MatchOption result (Numbered rd × Numbered rn × Numbered rm → ⊥) (λ w. (Numbered rd × Numbered rn × Numbered rm) × (w ≡ after head ((3, kind) ∷ (5, rm.enc) ∷ (6, option) ∷ (5, rn.enc) ∷ (5, rd.enc) ∷ []))) }
+{
+    if rd.enc >= 32 || rn.enc >= 32 || rm.enc >= 32 {
+        return None;
+    }
+    let w = join(head, 3, kind);
+    let w = join(w, 5, rm.enc as u32);
+    let w = join(w, 6, option);
+    let w = join(w, 5, rn.enc as u32);
+    Some(join(w, 5, rd.enc as u32))
+}
 
 fn add_sub_imm(op: AddSub, rd: Reg, rn: Reg, imm: Imm12) -> Option<u32>
     ensures { Writes (Inst.AddSubImm op rd rn imm) result }
@@ -57,12 +91,8 @@ fn pair(
         PairMode::Offset => 0,
         PairMode::Pre => 1,
     };
-    let load = match dir {
-        Dir::Store => 0,
-        Dir::Load => 1,
-    };
     let w = join(head, 1, low);
-    let w = join(w, 1, load);
+    let w = join(w, 1, load_bit(dir));
     let w = join(w, 7, imm / 8);
     let w = join(w, 5, rt2.enc as u32);
     let w = join(w, 5, rn.enc as u32);
@@ -72,31 +102,17 @@ fn pair(
 fn add_sub_ext(op: AddSub, rd: Reg, rn: Reg, rm: Reg) -> Option<u32>
     ensures { Writes (Inst.AddSubExt op rd rn rm) result }
 {
-    if rd.enc >= 32 || rn.enc >= 32 || rm.enc >= 32 {
-        return None;
-    }
     let head = match op {
         AddSub::Add => 0x8b,
         AddSub::Sub => 0xcb,
     };
-    let w = join(head, 3, 0b00_1);
-    let w = join(w, 5, rm.enc as u32);
-    let w = join(w, 6, 0b011_000);
-    let w = join(w, 5, rn.enc as u32);
-    Some(join(w, 5, rd.enc as u32))
+    by_registers(head, 0b00_1, 0b011_000, rd, rn, rm)
 }
 
 fn adds_shifted(rd: Reg, rn: Reg, rm: Reg) -> Option<u32>
     ensures { Writes (Inst.AddsShifted rd rn rm) result }
 {
-    if rd.enc >= 32 || rn.enc >= 32 || rm.enc >= 32 {
-        return None;
-    }
-    let w = join(0xab, 3, 0b00_0);
-    let w = join(w, 5, rm.enc as u32);
-    let w = join(w, 6, 0);
-    let w = join(w, 5, rn.enc as u32);
-    Some(join(w, 5, rd.enc as u32))
+    by_registers(0xab, 0b00_0, 0, rd, rn, rm)
 }
 
 fn single(dir: Dir, class: Class, mode: Mode, rt: Reg, rn: Reg, offset: SImm9) -> Option<u32>
@@ -111,16 +127,12 @@ fn single(dir: Dir, class: Class, mode: Mode, rt: Reg, rn: Reg, offset: SImm9) -
         Class::D => (0xfc, 0),
         Class::Q => (0x3c, 1),
     };
-    let load = match dir {
-        Dir::Store => 0,
-        Dir::Load => 1,
-    };
     let index = match mode {
         Mode::Post => 0b01,
         Mode::Pre => 0b11,
     };
     let w = join(head, 1, wide);
-    let w = join(w, 1, load);
+    let w = join(w, 1, load_bit(dir));
     let w = join(w, 1, 0);
     let w = join(w, 9, imm);
     let w = join(w, 2, index);
@@ -143,29 +155,13 @@ fn ldr_uimm(rt: Reg, rn: Reg, offset: UImm12Scaled) -> Option<u32>
 fn ldr_reg(rt: Reg, rn: Reg, rm: Reg) -> Option<u32>
     ensures { Writes (Inst.LdrReg rt rn rm) result }
 {
-    if rt.enc >= 32 || rn.enc >= 32 || rm.enc >= 32 {
-        return None;
-    }
-    let w = join(0xf8, 2, 0b01);
-    let w = join(w, 1, 1);
-    let w = join(w, 5, rm.enc as u32);
-    let w = join(w, 6, 0b011_0_10);
-    let w = join(w, 5, rn.enc as u32);
-    Some(join(w, 5, rt.enc as u32))
+    by_registers(0xf8, 0b01_1, 0b011_0_10, rt, rn, rm)
 }
 
 fn str_w_reg(rt: Reg, rn: Reg, rm: Reg) -> Option<u32>
     ensures { Writes (Inst.StrWReg rt rn rm) result }
 {
-    if rt.enc >= 32 || rn.enc >= 32 || rm.enc >= 32 {
-        return None;
-    }
-    let w = join(0xb8, 2, 0b00);
-    let w = join(w, 1, 1);
-    let w = join(w, 5, rm.enc as u32);
-    let w = join(w, 6, 0b011_0_10);
-    let w = join(w, 5, rn.enc as u32);
-    Some(join(w, 5, rt.enc as u32))
+    by_registers(0xb8, 0b00_1, 0b011_0_10, rt, rn, rm)
 }
 
 fn stur_w(rt: Reg, rn: Reg, offset: SImm9) -> Option<u32>
@@ -199,35 +195,37 @@ fn mov_wide(op: MoveWideOp, rd: Reg, imm: MoveWideConst) -> Option<u32>
     Some(join(w, 5, rd.enc as u32))
 }
 
+// PACI or AUTI, by the bits before the key's.
+fn pauth(head: u32, key: Key, modifier: Modifier) -> u32
+    requires { head < 2 ^ 25 }
+    ensures { result ≡ after head ((1, key_bit_of key) ∷ (1, sp_bit modifier) ∷ (5, 0b11111) ∷ []) }
+{
+    let sp = match modifier {
+        Modifier::Zero => 0,
+        Modifier::Sp => 1,
+    };
+    let w = join(head, 1, key_bit(key));
+    let w = join(w, 1, sp);
+    join(w, 5, 0b11111)
+}
+
 fn paci(key: Key, modifier: Modifier) -> u32
     ensures { result ≡ word (Inst.Paci key modifier) }
 {
-    match (key, modifier) {
-        (Key::A, Modifier::Zero) => 0xd503231f,
-        (Key::A, Modifier::Sp) => 0xd503233f,
-        (Key::B, Modifier::Zero) => 0xd503235f,
-        (Key::B, Modifier::Sp) => 0xd503237f,
-    }
+    pauth(0xd503_23 << 1, key, modifier)
 }
 
 fn auti(key: Key, modifier: Modifier) -> u32
     ensures { result ≡ word (Inst.Auti key modifier) }
 {
-    match (key, modifier) {
-        (Key::A, Modifier::Zero) => 0xd503239f,
-        (Key::A, Modifier::Sp) => 0xd50323bf,
-        (Key::B, Modifier::Zero) => 0xd50323df,
-        (Key::B, Modifier::Sp) => 0xd50323ff,
-    }
+    pauth(0xd503_23 << 1 | 1, key, modifier)
 }
 
 fn ret_auth(key: Key) -> u32
     ensures { result ≡ word (Inst.RetAuth key) }
 {
-    match key {
-        Key::A => 0xd65f0bff,
-        Key::B => 0xd65f0fff,
-    }
+    let w = join(0xd65f08 >> 3, 1, key_bit(key));
+    join(w, 10, 0b11111_11111)
 }
 
 fn b_gt(offset: i32) -> Option<u32>

@@ -8,30 +8,19 @@ use a64::inst::*;
 pub fn overlaps(rn: Reg, rt: Reg) -> bool
     ensures { result ≡ over rn rt }
 {
-    rn.enc != 31 && rt.enc == rn.enc
+    rn != Reg::SP && rt == rn
 }
 
 pub fn pair_clash(dir: Dir, class: PairClass, mode: PairMode, rt: Reg, rt2: Reg, rn: Reg) -> bool
     ensures { result ≡ pair_clash_of dir class mode rt rt2 rn }
 {
-    let twice = match dir {
-        Dir::Load => rt.enc == rt2.enc,
-        Dir::Store => false,
-    };
-    let writes = match (class, mode) {
-        (PairClass::X, PairMode::Pre) => true,
-        (PairClass::X, PairMode::Post) => true,
-        _ => false,
-    };
+    let twice = dir == Dir::Load && rt == rt2;
+    let writes = class == PairClass::X && mode != PairMode::Offset;
     twice || (writes && (overlaps(rn, rt) || overlaps(rn, rt2)))
 }
 
 pub fn single_clash(class: Class, rt: Reg, rn: Reg) -> bool
     ensures { result ≡ single_clash_of class rt rn }
 {
-    match class {
-        Class::X => overlaps(rn, rt),
-        Class::D => false,
-        Class::Q => false,
-    }
+    class == Class::X && overlaps(rn, rt)
 }

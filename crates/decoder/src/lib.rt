@@ -12,20 +12,11 @@ mod read;
 
 use a64::inst::Inst;
 
-// What the reader answers is a reading of the word, and the only one.
-fn read_word(w: u32) -> Inst
-    ensures reading { result ≡ reading w }
-    ensures reads { Reads w result }
-    ensures only { (i : Instruction) → Reads w i → i ≡ result }
-{
-    read::by_head(w)
-}
-
 // The reading of a word: the only one.
 pub fn decode(w: u32) -> Inst
     ensures reading { result ≡ reading w }
     ensures reads { Reads w result }
     ensures only { (i : Instruction) → Reads w i → i ≡ result }
 {
-    read_word(w)
+    read::by_head(w)
 }

@@ -1,8 +1,8 @@
 // The reader: by bits 31 to 24 to one small reader for each class of instructions.
 ghost use Rattle.std.specs.Prelude.{◌≡◌, ◌<◌};
-ghost use Rattle.decoder.specs.Reading.{add_sub_ext_of, add_sub_imm_of, adds_shifted_of, branch, hint, indexed, ldr_reg_of, ldr_u_imm, load_x_of, mov_wide_of, pair, pair_post_of, pair_pre_of, reading, reg_of, ret, single, store_w_of};
+ghost use Rattle.decoder.specs.Reading.{add_sub_ext_of, add_sub_imm_of, adds_shifted_of, branch, dir_of, field_of, hint, indexed, key_of, ldr_reg_of, ldr_u_imm, load_x_of, mov_wide_of, pair, pair_post_of, pair_pre_of, reading, reg_of, ret, single, store_w_of};
 
-use crate::bits::{field, signed, signed16};
+use crate::bits::{field, signed};
 use crate::clash::{pair_clash, single_clash};
 use a64::imm::*;
 use a64::inst::*;
@@ -15,6 +15,25 @@ fn reg(w: u32, at: u32) -> Reg
     Reg {
         enc: field(w, at, 5) as u8,
     }
+}
+
+// Whether a word stores or loads.
+fn dir(w: u32) -> Dir
+    ensures { result ≡ dir_of (field_of w 22 1) }
+{
+    if field(w, 22, 1) == 0 {
+        Dir::Store
+    } else {
+        Dir::Load
+    }
+}
+
+// The key that stands at bit `at`.
+fn key(w: u32, at: u32) -> Key
+    requires { at < 32 }
+    ensures { result ≡ key_of (field_of w at 1) }
+{
+    if field(w, at, 1) == 0 { Key::A } else { Key::B }
 }
 
 fn add_sub_imm(op: AddSub, w: u32) -> Inst
@@ -53,11 +72,7 @@ fn add_sub_ext(op: AddSub, w: u32) -> Inst
 fn pair_of(class: PairClass, mode: PairMode, w: u32) -> Inst
     ensures { result ≡ pair class mode w }
 {
-    let dir = if field(w, 22, 1) == 0 {
-        Dir::Store
-    } else {
-        Dir::Load
-    };
+    let dir = dir(w);
     let rt = reg(w, 0);
     let rt2 = reg(w, 10);
     let rn = reg(w, 5);
@@ -65,7 +80,7 @@ fn pair_of(class: PairClass, mode: PairMode, w: u32) -> Inst
         return Inst::Other(w);
     }
     let offset = SImm7Scaled {
-        value: signed16(8 * field(w, 15, 7), 10),
+        value: signed(8 * field(w, 15, 7), 10) as i16,
     };
     Inst::Pair {
         dir,
@@ -115,18 +130,14 @@ fn pair_pre(class: PairClass, w: u32) -> Inst
 fn indexed_by(class: Class, mode: Mode, w: u32) -> Inst
     ensures { result ≡ indexed class mode w }
 {
-    let dir = if field(w, 22, 1) == 0 {
-        Dir::Store
-    } else {
-        Dir::Load
-    };
+    let dir = dir(w);
     let rt = reg(w, 0);
     let rn = reg(w, 5);
     if single_clash(class, rt, rn) {
         return Inst::Other(w);
     }
     let offset = SImm9 {
-        value: signed16(field(w, 12, 9), 9),
+        value: signed(field(w, 12, 9), 9) as i16,
     };
     Inst::Single {
         dir,
@@ -220,7 +231,7 @@ fn store_w(w: u32) -> Inst
             rt,
             rn,
             offset: SImm9 {
-                value: signed16(field(w, 12, 9), 9),
+                value: signed(field(w, 12, 9), 9) as i16,
             },
         }
     } else {
@@ -253,7 +264,7 @@ fn hint_of(w: u32) -> Inst
         return Inst::BtiC;
     }
     if field(w, 12, 12) == 0x032 && field(w, 8, 4) == 3 && field(w, 0, 5) == 31 {
-        let key = if field(w, 6, 1) == 0 { Key::A } else { Key::B };
+        let key = key(w, 6);
         let modifier = if field(w, 5, 1) == 0 {
             Modifier::Zero
         } else {
@@ -276,9 +287,7 @@ fn ret_of(w: u32) -> Inst
         return Inst::Ret;
     }
     if field(w, 11, 13) == 0xbe1 && field(w, 0, 10) == 0x3ff {
-        Inst::RetAuth {
-            key: if field(w, 10, 1) == 0 { Key::A } else { Key::B },
-        }
+        Inst::RetAuth { key: key(w, 10) }
     } else {
         Inst::Other(w)
     }

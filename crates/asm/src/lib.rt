@@ -56,13 +56,6 @@ impl fmt::Display for Address {
     }
 }
 
-fn add_sub(op: AddSub) -> &'static str {
-    match op {
-        AddSub::Add => "add",
-        AddSub::Sub => "sub",
-    }
-}
-
 #[derive(Clone, Copy)]
 struct Number(Imm12);
 
@@ -92,185 +85,204 @@ impl fmt::Display for Part {
     }
 }
 
-fn pair(dir: Dir) -> &'static str {
-    match dir {
-        Dir::Store => "stp",
-        Dir::Load => "ldp",
+impl From<Class> for Bank {
+    fn from(class: Class) -> Bank {
+        match class {
+            Class::X => Bank::X,
+            Class::D => Bank::D,
+            Class::Q => Bank::Q,
+        }
     }
 }
 
-fn single(dir: Dir) -> &'static str {
-    match dir {
-        Dir::Store => "str",
-        Dir::Load => "ldr",
+impl From<PairClass> for Bank {
+    fn from(class: PairClass) -> Bank {
+        match class {
+            PairClass::X => Bank::X,
+            PairClass::D => Bank::D,
+        }
     }
 }
 
-fn pair_bank(class: PairClass) -> Bank {
-    match class {
-        PairClass::X => Bank::X,
-        PairClass::D => Bank::D,
-    }
-}
-
-fn single_bank(class: Class) -> Bank {
-    match class {
-        Class::X => Bank::X,
-        Class::D => Bank::D,
-        Class::Q => Bank::Q,
-    }
-}
-
-fn indexed(mode: Mode) -> PairMode {
-    match mode {
-        Mode::Pre => PairMode::Pre,
-        Mode::Post => PairMode::Post,
-    }
-}
-
-fn move_wide(op: MoveWideOp) -> &'static str {
+// The parts of names. The types are another crate's, so they can't print themselves.
+fn operation(op: AddSub) -> &'static str {
     match op {
+        AddSub::Add => "add",
+        AddSub::Sub => "sub",
+    }
+}
+
+fn direction(dir: Dir) -> &'static str {
+    match dir {
+        Dir::Store => "st",
+        Dir::Load => "ld",
+    }
+}
+
+fn letter(key: Key) -> &'static str {
+    match key {
+        Key::A => "a",
+        Key::B => "b",
+    }
+}
+
+fn add_sub_imm<W: fmt::Write>(
+    f: &mut fmt::Formatter<W>,
+    op: AddSub,
+    rd: Reg,
+    rn: Reg,
+    imm: Imm12,
+) -> fmt::Result {
+    let name = operation(op);
+    let rd = Name(Bank::XSp, rd);
+    let rn = Name(Bank::XSp, rn);
+    let imm = Number(imm);
+    write!(f, "{name} {rd}, {rn}, {imm}")
+}
+
+fn add_sub_ext<W: fmt::Write>(
+    f: &mut fmt::Formatter<W>,
+    op: AddSub,
+    rd: Reg,
+    rn: Reg,
+    rm: Reg,
+) -> fmt::Result {
+    let name = operation(op);
+    let rd = Name(Bank::XSp, rd);
+    let rn = Name(Bank::XSp, rn);
+    let rm = Name(Bank::X, rm);
+    write!(f, "{name} {rd}, {rn}, {rm}, uxtx")
+}
+
+fn adds_shifted<W: fmt::Write>(
+    f: &mut fmt::Formatter<W>,
+    rd: Reg,
+    rn: Reg,
+    rm: Reg,
+) -> fmt::Result {
+    let rd = Name(Bank::X, rd);
+    let rn = Name(Bank::X, rn);
+    let rm = Name(Bank::X, rm);
+    write!(f, "adds {rd}, {rn}, {rm}")
+}
+
+fn mov_wide<W: fmt::Write>(
+    f: &mut fmt::Formatter<W>,
+    op: MoveWideOp,
+    rd: Reg,
+    imm: MoveWideConst,
+) -> fmt::Result {
+    let name = match op {
         MoveWideOp::MovZ => "movz",
         MoveWideOp::MovK => "movk",
-    }
+    };
+    let rd = Name(Bank::X, rd);
+    let imm = Part(imm);
+    write!(f, "{name} {rd}, {imm}")
 }
 
-fn paci(key: Key, modifier: Modifier) -> &'static str {
-    match (key, modifier) {
-        (Key::A, Modifier::Zero) => "paciaz",
-        (Key::A, Modifier::Sp) => "paciasp",
-        (Key::B, Modifier::Zero) => "pacibz",
-        (Key::B, Modifier::Sp) => "pacibsp",
-    }
-}
-
-fn auti(key: Key, modifier: Modifier) -> &'static str {
-    match (key, modifier) {
-        (Key::A, Modifier::Zero) => "autiaz",
-        (Key::A, Modifier::Sp) => "autiasp",
-        (Key::B, Modifier::Zero) => "autibz",
-        (Key::B, Modifier::Sp) => "autibsp",
-    }
-}
-
-fn ret_auth(key: Key) -> &'static str {
-    match key {
-        Key::A => "retaa",
-        Key::B => "retab",
-    }
-}
-
-fn register_offset<W: fmt::Write>(
+fn indexed<W: fmt::Write>(
     f: &mut fmt::Formatter<W>,
-    name: &str,
+    dir: Dir,
+    rt: Name,
+    mode: Mode,
+    rn: Reg,
+    offset: i16,
+) -> fmt::Result {
+    let name = direction(dir);
+    let mode = match mode {
+        Mode::Pre => PairMode::Pre,
+        Mode::Post => PairMode::Post,
+    };
+    let at = Address(mode, rn, offset);
+    write!(f, "{name}r {rt}, {at}")
+}
+
+fn by_register<W: fmt::Write>(
+    f: &mut fmt::Formatter<W>,
+    dir: Dir,
     rt: Name,
     rn: Reg,
     rm: Reg,
 ) -> fmt::Result {
+    let name = direction(dir);
     let rn = Name(Bank::XSp, rn);
     let rm = Name(Bank::X, rm);
-    write!(f, "{name} {rt}, [{rn}, {rm}]")
+    write!(f, "{name}r {rt}, [{rn}, {rm}]")
 }
 
-fn arithmetic<W: fmt::Write>(f: &mut fmt::Formatter<W>, i: Inst) -> fmt::Result {
-    match i {
-        Inst::AddSubImm { op, rd, rn, imm } => {
-            let name = add_sub(op);
-            let rd = Name(Bank::XSp, rd);
-            let rn = Name(Bank::XSp, rn);
-            let imm = Number(imm);
-            write!(f, "{name} {rd}, {rn}, {imm}")
-        }
-        Inst::AddSubExt { op, rd, rn, rm } => {
-            let name = add_sub(op);
-            let rd = Name(Bank::XSp, rd);
-            let rn = Name(Bank::XSp, rn);
-            let rm = Name(Bank::X, rm);
-            write!(f, "{name} {rd}, {rn}, {rm}, uxtx")
-        }
-        Inst::AddsShifted { rd, rn, rm } => {
-            let rd = Name(Bank::X, rd);
-            let rn = Name(Bank::X, rn);
-            let rm = Name(Bank::X, rm);
-            write!(f, "adds {rd}, {rn}, {rm}")
-        }
-        Inst::MovWide { op, rd, imm } => {
-            let name = move_wide(op);
-            let rd = Name(Bank::X, rd);
-            let imm = Part(imm);
-            write!(f, "{name} {rd}, {imm}")
-        }
-        _ => Ok(()),
-    }
+fn pauth<W: fmt::Write>(
+    f: &mut fmt::Formatter<W>,
+    name: &str,
+    key: Key,
+    modifier: Modifier,
+) -> fmt::Result {
+    let key = letter(key);
+    let modifier = match modifier {
+        Modifier::Zero => "z",
+        Modifier::Sp => "sp",
+    };
+    write!(f, "{name}{key}{modifier}")
 }
 
-fn access<W: fmt::Write>(f: &mut fmt::Formatter<W>, i: Inst) -> fmt::Result {
-    match i {
-        Inst::Pair {
-            dir,
-            class,
-            mode,
-            rt,
-            rt2,
-            rn,
-            offset,
-        } => {
-            let name = pair(dir);
-            let rt = Name(pair_bank(class), rt);
-            let rt2 = Name(pair_bank(class), rt2);
-            let at = Address(mode, rn, offset.value);
-            write!(f, "{name} {rt}, {rt2}, {at}")
-        }
-        Inst::Single {
-            dir,
-            class,
-            mode,
-            rt,
-            rn,
-            offset,
-        } => {
-            let name = single(dir);
-            let rt = Name(single_bank(class), rt);
-            let at = Address(indexed(mode), rn, offset.value);
-            write!(f, "{name} {rt}, {at}")
-        }
-        Inst::LdrUImm { rt, rn, offset } => {
-            let rt = Name(Bank::X, rt);
-            let rn = Name(Bank::XSp, rn);
-            let offset = offset.value;
-            write!(f, "ldr {rt}, [{rn}, #{offset}]")
-        }
-        Inst::LdrReg { rt, rn, rm } => register_offset(f, "ldr", Name(Bank::X, rt), rn, rm),
-        Inst::StrWReg { rt, rn, rm } => register_offset(f, "str", Name(Bank::W, rt), rn, rm),
-        Inst::SturW { rt, rn, offset } => {
-            let rt = Name(Bank::W, rt);
-            let at = Address(PairMode::Offset, rn, offset.value);
-            write!(f, "stur {rt}, {at}")
-        }
-        _ => Ok(()),
-    }
-}
-
+// One arm for each form.
 impl fmt::Display for Asm {
     fn fmt<W: fmt::Write>(&self, f: &mut fmt::Formatter<W>) -> fmt::Result {
-        let i = self.0;
-        match i {
-            Inst::Paci { key, modifier } => f.write_str(paci(key, modifier)),
-            Inst::Auti { key, modifier } => f.write_str(auti(key, modifier)),
+        match self.0 {
+            Inst::AddSubImm { op, rd, rn, imm } => add_sub_imm(f, op, rd, rn, imm),
+            Inst::AddSubExt { op, rd, rn, rm } => add_sub_ext(f, op, rd, rn, rm),
+            Inst::AddsShifted { rd, rn, rm } => adds_shifted(f, rd, rn, rm),
+            Inst::MovWide { op, rd, imm } => mov_wide(f, op, rd, imm),
+            Inst::Pair {
+                dir,
+                class,
+                mode,
+                rt,
+                rt2,
+                rn,
+                offset,
+            } => {
+                let name = direction(dir);
+                let rt = Name(class.into(), rt);
+                let rt2 = Name(class.into(), rt2);
+                let at = Address(mode, rn, offset.value);
+                write!(f, "{name}p {rt}, {rt2}, {at}")
+            }
+            Inst::Single {
+                dir,
+                class,
+                mode,
+                rt,
+                rn,
+                offset,
+            } => indexed(f, dir, Name(class.into(), rt), mode, rn, offset.value),
+            Inst::LdrUImm { rt, rn, offset } => {
+                let rt = Name(Bank::X, rt);
+                let rn = Name(Bank::XSp, rn);
+                let offset = offset.value;
+                write!(f, "ldr {rt}, [{rn}, #{offset}]")
+            }
+            Inst::LdrReg { rt, rn, rm } => by_register(f, Dir::Load, Name(Bank::X, rt), rn, rm),
+            Inst::StrWReg { rt, rn, rm } => by_register(f, Dir::Store, Name(Bank::W, rt), rn, rm),
+            Inst::SturW { rt, rn, offset } => {
+                let rt = Name(Bank::W, rt);
+                let at = Address(PairMode::Offset, rn, offset.value);
+                write!(f, "stur {rt}, {at}")
+            }
+            Inst::Paci { key, modifier } => pauth(f, "paci", key, modifier),
+            Inst::Auti { key, modifier } => pauth(f, "auti", key, modifier),
             Inst::BtiC => f.write_str("bti c"),
             Inst::Ret => f.write_str("ret"),
-            Inst::RetAuth { key } => f.write_str(ret_auth(key)),
+            Inst::RetAuth { key } => {
+                let key = letter(key);
+                write!(f, "reta{key}")
+            }
             Inst::BGt { offset } => {
                 // the assembler counts in bytes
                 let bytes = offset as i64 * 4;
                 write!(f, "b.gt #{bytes}")
             }
             Inst::Other(w) => write!(f, ".inst 0x{w:08x}"),
-            Inst::AddSubImm { .. } => arithmetic(f, i),
-            Inst::AddSubExt { .. } => arithmetic(f, i),
-            Inst::AddsShifted { .. } => arithmetic(f, i),
-            Inst::MovWide { .. } => arithmetic(f, i),
-            _ => access(f, i),
         }
     }
 }

@@ -30,7 +30,7 @@ use Rattle.plainbook.specs.Claims.{HeldAt, placed, own_notes, ReturnsIn, LandsIn
 use Rattle.plainbook.proofs.Pieces.{items_are}
 use Rattle.plainbook.proofs.Reading.{item_none}
 use Rattle.plainbook.proofs.Standing.{all_items_append, listed_many}
-use Rattle.shelf.proofs.Items.{item_past}
+use Rattle.std.proofs.lemmas.Option.{slice_get_past}
 
 -- ---- where the code stands
 
@@ -228,7 +228,7 @@ shown p r h es fs k o s oe = go (item_at fs k) refl
     go None e =
         let l = item_none fs k (sym e) in
         let m = listed_many es fs s.lists in
-        oe ∙ item_past es k (omega arith)
+        oe ∙ slice_get_past es k (omega arith)
     go (Some f) e =
         let w = at_slot fs k f e in
         let q : item_at (map plain_entry es) k ≡ Some (entry_of (0 + length (insts_in (all_items w.0))) (0 + marks_in (all_items w.0)) f) =

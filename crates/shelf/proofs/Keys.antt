@@ -1,9 +1,10 @@
 -- Laws of the ordered keys.
-use Rattle.std.proofs.Common.{◌≡◌, ℕ, zero, suc, ◌+◌, ◌<◌, ◌≤◌, Bool, true, false, cond, eqb, ltb, List, [], ◌∷◌, ◌++◌, length, get_or, take, drop, Some, None, Option, Less, Equal, Greater, sym, refl, ap, ◌∙◌, subst, append_assoc, append-nil, add-one, arith}
-use Rattle.std.specs.List.{remove, AllByRecursion}
+use Rattle.std.proofs.Common.{◌≡◌, ℕ, zero, suc, ◌+◌, ◌<◌, ◌≤◌, Bool, true, false, not, cond, eqb, ltb, List, [], ◌∷◌, ◌++◌, length, get_or, take, drop, Some, None, Option, Less, Equal, Greater, sym, refl, ap, ◌∙◌, subst, append_assoc, append-nil, arith}
+use Rattle.std.specs.List.{remove, position, position_or_len, AllByRecursion}
+use Rattle.std.specs.List.Sorted.{IsNonDecreasingBy}
 use Rattle.std.specs.Ordering.{is_lt}
 use Rattle.std.proofs.ByRecursion.{All-weaker}
-use Rattle.std.proofs.lemmas.List.{drop_more, drop_all, take_more, take_all, length_push, length-map, length-take-le, map_push, take_at}
+use Rattle.std.proofs.lemmas.List.{drop_more, drop_all, take_all, length_push, length-map, length-take-le, map_push, take_at}
 use Rattle.std.proofs.lemmas.Bool.{ltb-true, ltb-false, cond-true, cond-false, eq-eqb, ne_eqb, eqb-true}
 use Rattle.order.specs.Placed.{below, placed, InOrder}
 use Rattle.order.proofs.Stays.{stays, length_placed}
@@ -171,13 +172,32 @@ looks_on k ks seen (m ∷ ns) ke s h n =
 pub looks : (ns : List ℕ) (n : ℕ) → look_in n (index_of ns) ≡ slot_for n ns
 looks ns n = looks_on 0 [] [] ns refl tt (λ m. refl) n
 
--- ---- the walks over the keys
+-- ---- the place of a number among the keys
+
+at : (P : Key → Type 0) (ks : List Key) (k : ℕ) (d : Key) → AllByRecursion P ks → k < length ks → P (get_or ks k d)
+at P [] k d a lt = absurd (omega arith)
+at P (y ∷ ys) zero d a lt = a.0
+at P (y ∷ ys) (suc k) d a lt = at P ys k d a.1 (omega arith)
+
+-- the numbers rise
+pub rising : (ks : List Key) → InOrder (below key_order) ks → IsNonDecreasingBy (λ (y : Key). y.number) ks
+rising [] h i j d le lt = absurd (omega arith)
+rising (y ∷ ys) h zero zero d le lt = omega arith
+rising (y ∷ ys) h zero (suc j) d le lt =
+    ltb-false _ _ (sym (below_ltb (get_or ys j d) y) ∙ at _ ys j d h.0 (omega arith))
+rising (y ∷ ys) h (suc i) zero d le lt = absurd (omega arith)
+rising (y ∷ ys) h (suc i) (suc j) d le lt = rising ys h.1 i j d (omega arith) (omega arith)
+
+-- smaller numbers are passed over
+pub look_past : (n i : ℕ) (ks : List Key) → ((k : ℕ) (d : Key) → k < i → ltb (get_or ks k d).number n ≡ true) → look_in n ks ≡ look_in n (drop i ks)
+look_past n zero ks h = refl
+look_past n (suc i) [] h = refl
+look_past n (suc i) (y ∷ ys) h =
+    let l : y.number < n = ltb-true _ _ (h 0 y (omega arith)) in
+    cond-false _ _ _ (ne_eqb y.number n (λ e. omega arith)) ∙ look_past n i ys (λ k d lt. h (suc k) d (omega arith))
 
 pub look_here : (n k : ℕ) (ks : List Key) (d : Key) → k < length ks → (get_or ks k d).number ≡ n → look_in n (drop k ks) ≡ Some (get_or ks k d).slot
 look_here n k ks d lt h = ap (look_in n) (drop_more ks k d lt) ∙ cond-true _ _ _ (eq-eqb _ _ h)
-
-pub look_on : (n k : ℕ) (ks : List Key) (d : Key) → k < length ks → ((get_or ks k d).number ≡ n → ⊥) → look_in n (drop k ks) ≡ look_in n (drop (k + 1) ks)
-look_on n k ks d lt h = ap (look_in n) (drop_more ks k d lt) ∙ cond-false _ _ _ (ne_eqb _ _ h)
 
 pub look_end : (n k : ℕ) (ks : List Key) → length ks ≤ k → look_in n (drop k ks) ≡ None
 look_end n k ks le = ap (look_in n) (drop_all k ks le)
@@ -193,35 +213,38 @@ look_stop n k ks d lt l h =
     let q : drop k ks ≡ get_or ks k d ∷ drop (k + 1) ks = drop_more ks k d lt in
     ap (look_in n) q ∙ look_first n (get_or ks k d) (drop (k + 1) ks) (subst (InOrder (below key_order)) q (order_drop k ks h)) l
 
-cut_here : (s k : ℕ) (ks : List Key) (d : Key) → k < length ks → (get_or ks k d).slot ≡ s →
-    remove ks k ≡ take k ks ++ cut_slot s (drop k ks)
-cut_here s k ks d lt h =
-    let e : cut_slot s (drop k ks) ≡ drop (k + 1) ks = ap (cut_slot s) (drop_more ks k d lt) ∙ cond-true _ _ _ (eq-eqb _ _ h) in
-    ap (λ (n : ℕ). take k ks ++ drop n ks) (sym (add-one k)) ∙ ap (λ (zs : List Key). take k ks ++ zs) (sym e)
+remove_past : (ks : List Key) (k : ℕ) → length ks ≤ k → remove ks k ≡ ks
+remove_past [] zero le = refl
+remove_past [] (suc k) le = refl
+remove_past (y ∷ ys) zero le = absurd (omega arith)
+remove_past (y ∷ ys) (suc k) le = ap (λ (zs : List Key). y ∷ zs) (remove_past ys k (omega arith))
 
-cut_on : (s k : ℕ) (ks : List Key) (d : Key) → k < length ks → ((get_or ks k d).slot ≡ s → ⊥) →
-    take (k + 1) ks ++ cut_slot s (drop (k + 1) ks) ≡ take k ks ++ cut_slot s (drop k ks)
-cut_on s k ks d lt h =
-    let e : cut_slot s (drop k ks) ≡ get_or ks k d ∷ cut_slot s (drop (k + 1) ks) = ap (cut_slot s) (drop_more ks k d lt) ∙ cond-false _ _ _ (ne_eqb _ _ h) in
-    ap (λ (zs : List Key). zs ++ cut_slot s (drop (k + 1) ks)) (take_more ks k d lt)
-    ∙ append_assoc (take k ks) (get_or ks k d ∷ []) (cut_slot s (drop (k + 1) ks))
-    ∙ ap (λ (zs : List Key). take k ks ++ zs) (sym e)
+-- taking out the first key of a slot
+cut_place : (s : ℕ) (ks : List Key) → remove ks (position_or_len (λ (y : Key). eqb y.slot s) ks) ≡ cut_slot s ks
+cut_place s [] = refl
+cut_place s (y ∷ ys) =
+    elim (eqb y.slot s) as (λ (b : Bool). remove (y ∷ ys) (cond (not b) (1 + position_or_len (λ (k : Key). eqb k.slot s) ys) 0) ≡ cond b ys (y ∷ cut_slot s ys)) [
+      | true ↦ refl
+      | false ↦
+          let n = position_or_len (λ (k : Key). eqb k.slot s) ys in
+          ap (remove (y ∷ ys)) (let e : 1 + n ≡ suc n = omega arith in e) ∙ ap (λ (zs : List Key). y ∷ zs) (cut_place s ys)
+    ]
 
-pub cut_end : (s k : ℕ) (ks : List Key) → length ks ≤ k → take k ks ++ cut_slot s (drop k ks) ≡ ks
-cut_end s k ks le =
-    ap (λ (zs : List Key). take k ks ++ cut_slot s zs) (drop_all k ks le) ∙ append-nil (take k ks) ∙ take_all k ks le
+place_some : (b : Bool) (p i : ℕ) → cond b (Some p) None ≡ Some i → p ≡ i
+place_some true p i e = cc
+place_some false p i e = absurd cc
 
-pub cut_found : (s k : ℕ) (ks ks0 : List Key) (e : Key) → ks ≡ ks0 → k < length ks0 → e ≡ get_or ks k e → e.slot ≡ s →
-    take k ks0 ++ cut_slot s (drop k ks0) ≡ cut_slot s ks0 → remove ks k ≡ cut_slot s ks0
-cut_found s k ks ks0 e q lt at h inv =
-    let d : (get_or ks0 k e).slot ≡ s = ap (λ (zs : List Key). (get_or zs k e).slot) (sym q) ∙ ap (λ (x : Key). x.slot) (sym at) ∙ h in
-    ap (λ (zs : List Key). remove zs k) q ∙ cut_here s k ks0 e lt d ∙ inv
+place_none : (b : Bool) (p : ℕ) → cond b (Some p) None ≡ None → b ≡ false
+place_none true p e = absurd cc
+place_none false p e = refl
 
-pub cut_next : (s k : ℕ) (ks ks0 : List Key) (e : Key) → ks ≡ ks0 → k < length ks0 → e ≡ get_or ks k e → (e.slot ≡ s → ⊥) →
-    take k ks0 ++ cut_slot s (drop k ks0) ≡ cut_slot s ks0 → take (k + 1) ks0 ++ cut_slot s (drop (k + 1) ks0) ≡ cut_slot s ks0
-cut_next s k ks ks0 e q lt at h inv =
-    let d : e.slot ≡ (get_or ks0 k e).slot = ap (λ (x : Key). x.slot) at ∙ ap (λ (zs : List Key). (get_or zs k e).slot) q in
-    cut_on s k ks0 e lt (λ z. h (d ∙ z)) ∙ inv
+pub cut_found : (s i : ℕ) (ks : List Key) → position (λ (y : Key). eqb y.slot s) ks ≡ Some i → remove ks i ≡ cut_slot s ks
+cut_found s i ks e = subst (λ (k : ℕ). remove ks k ≡ cut_slot s ks) (place_some _ _ i e) (cut_place s ks)
+
+pub cut_none : (s : ℕ) (ks : List Key) → position (λ (y : Key). eqb y.slot s) ks ≡ None → ks ≡ cut_slot s ks
+cut_none s ks e =
+    let le = ltb-false _ _ (place_none _ _ e) in
+    sym (remove_past ks _ le) ∙ cut_place s ks
 
 -- ---- a shelf after one more entry, and after one less
 

@@ -1,12 +1,10 @@
 -- Slots: places in a list of functions.
-use Rattle.std.specs.Prelude.{ℕ, zero, suc, ◌+◌, cond, List, [], ◌∷◌, map, Some, None, Option, ◌==◌}
+use Rattle.std.specs.Prelude.{ℕ, ◌+◌, cond, List, [], ◌∷◌, map, Some, None, Option, ◌==◌, slice_get}
 use Rattle.shelf.specs.declared.entry.Entry.{Entry}
 
 -- The item at a place, if the list has one there.
 abbrev pub item_at : {X : Type 0} → List X → ℕ → Option X
-item_at [] i = None
-item_at (x ∷ xs) zero = Some x
-item_at (x ∷ xs) (suc i) = item_at xs i
+item_at xs i = slice_get xs i
 
 -- The first slot, counted from k, that has the number n.
 abbrev pub slot_from : ℕ → ℕ → List ℕ → Option ℕ

@@ -16,16 +16,12 @@ use std::alloc::{AllocError, Global};
 fn slot_in(keys: &[Key], number: u32) -> Option<usize>
     ensures { InOrder (below key_order) keys.now → result ≡ look_in number keys.now }
 {
-    for k in keys {
-        if k.number == number {
-            return Some(k.slot);
-        }
-        // No number behind is smaller.
-        if k.number > number {
-            return None;
-        }
+    let first = keys.get(keys.partition_point(|k| k.number < number))?;
+    if first.number == number {
+        Some(first.slot)
+    } else {
+        None
     }
-    None
 }
 
 // Puts a key in its place, where there is memory for it.
@@ -44,12 +40,8 @@ fn cut_key(keys: &mut Vec<Key>, slot: usize)
     ensures items { keys.new.items ≡ cut_slot slot keys.old.items }
     ensures capacity { vec_capacity keys.new ≡ vec_capacity keys.old }
 {
-    let n = keys.len();
-    for i in 0..n {
-        if keys[i].slot == slot {
-            let _ = keys.remove(i);
-            return;
-        }
+    if let Some(i) = keys.iter().position(|k| k.slot == slot) {
+        let _ = keys.remove(i);
     }
 }
 
@@ -73,22 +65,14 @@ impl Shelf {
     pub fn entry_at(&self, slot: usize) -> Option<Entry>
         ensures { result ≡ item_at (listed self.now) slot }
     {
-        if slot < self.entries.len() {
-            Some(self.entries[slot])
-        } else {
-            None
-        }
+        self.entries.get(slot).copied()
     }
 
     // The entry that was listed last.
     pub fn last(&self) -> Option<Entry>
         ensures { result ≡ item_at (listed self.now) (length (listed self.now) - 1) }
     {
-        let n = self.entries.len();
-        if n == 0 {
-            return None;
-        }
-        self.entry_at(n - 1)
+        self.entries.last().copied()
     }
 
     // The first slot with this function number.

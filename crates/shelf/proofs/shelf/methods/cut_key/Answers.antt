@@ -1,23 +1,16 @@
-use Rattle.std.proofs.Common.{vec_items, sym, ◌∙◌, rules}
-use Rattle.shelf.proofs.Keys.{cut_found, cut_next, cut_end}
+use Rattle.std.proofs.Common.{eqb, sym, ◌∙◌, rules, tests}
+use Rattle.std.proofs.lemmas.Iterator.{YieldsList-from_slice}
+use Rattle.std.proofs.lemmas.Iterator.Search.{position_from_yields_List}
+use Rattle.shelf.specs.declared.key.Key.{Key}
+use Rattle.shelf.proofs.Keys.{cut_found, cut_none}
 use Rattle.shelf.proofs.shelf.methods.cut_key.Goals as goal
 
-pub returns-then-index-slot : goal.returns-then-index-slot
-returns-then-index-slot c = record {
-  items = c.remove.ensures.items
-      ∙ cut_found c.args.slot c.loop-i.i (vec_items c.loop-i.keys) (vec_items c.args.keys.now) c.index.result.now c.loop-i.invariant.0 (search rules) c.index.ensures c.if-index-slot.true c.loop-i.invariant.2;
-  capacity = c.remove.ensures.capacity ∙ c.loop-i.invariant.1;
-}
+pub returns-in-Some-clause-items : goal.returns-in-Some-clause-items
+returns-in-Some-clause-items c =
+    let at = position_from_yields_List (λ (k : Key). eqb k.slot c.args.slot) _ _ c.position.result c.position.ensures.ran (YieldsList-from_slice c.args.keys.now.items cc) (λ x b q k. search (rules, tests)) in
+    c.remove.ensures.items ∙ cut_found c.args.slot c.in-Some.i c.args.keys.now.items (sym at ∙ c.in-Some.is)
 
-pub loop-i-preserved : goal.loop-i-preserved
-loop-i-preserved c = (
-  c.loop-i.invariant.0,
-  c.loop-i.invariant.1,
-  cut_next c.args.slot c.loop-i.i (vec_items c.loop-i.keys) (vec_items c.args.keys.now) c.index.result.now c.loop-i.invariant.0 (search rules) c.index.ensures c.if-index-slot.false c.loop-i.invariant.2,
-)
-
-pub returns : goal.returns
-returns c = record {
-  items = c.loop-i.invariant.0 ∙ sym (cut_end c.args.slot c.loop-i.i (vec_items c.args.keys.now) (search rules)) ∙ c.loop-i.invariant.2;
-  capacity = c.loop-i.invariant.1;
-}
+pub returns-in_default-clause-items : goal.returns-in_default-clause-items
+returns-in_default-clause-items c =
+    let at = position_from_yields_List (λ (k : Key). eqb k.slot c.args.slot) _ _ c.position.result c.position.ensures.ran (YieldsList-from_slice c.args.keys.now.items cc) (λ x b q k. search (rules, tests)) in
+    cut_none c.args.slot c.args.keys.now.items (sym at ∙ c.in_default.is)

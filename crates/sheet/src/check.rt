@@ -23,7 +23,7 @@ pub const LARGEST_SUM: u64 = 1 << 30;
 pub fn is_paired(call_conv: CallConv, flags: Flags) -> bool
     ensures { result ≡ pairs call_conv flags }
 {
-    call_conv.is(CallConv::AppleAarch64) && flags.enable_compact_unwind_abi
+    call_conv == CallConv::AppleAarch64 && flags.enable_compact_unwind_abi
 }
 
 // A refusal that speaks of no place.
@@ -59,14 +59,14 @@ fn bad_sizes(z: Sizes) -> bool
 fn bad_tail(call_conv: CallConv, z: Sizes) -> bool
     ensures { result ≡ bad_tail_of call_conv z }
 {
-    z.tail < z.incoming || (!call_conv.is(CallConv::Tail) && z.tail != z.incoming)
+    z.tail < z.incoming || (call_conv != CallConv::Tail && z.tail != z.incoming)
 }
 
 // Winch gives incoming bytes back before the seal is checked. With incoming above 0 there is a setup area.
 fn winch_seal(call_conv: CallConv, flags: Flags, z: Sizes) -> bool
     ensures { (setup : Bool) → (0 < z.incoming → setup ≡ true) → result ≡ winch_seal_of call_conv flags z setup }
 {
-    call_conv.is(CallConv::Winch)
+    call_conv == CallConv::Winch
         && z.incoming > 0
         && select_api_key(flags, call_conv, true).is_some()
 }

@@ -1,6 +1,6 @@
 // Numbers read as conventions, call kinds and flags.
 ghost use Rattle.std.specs.Prelude.{◌≡◌, ◌<◌, MatchOption};
-ghost use Rattle.sheet.specs.Plain.{conv_of, calls_of, flags_of, conv_number, calls_number, same, alike};
+ghost use Rattle.sheet.specs.Plain.{conv_of, calls_of, flags_of, same, alike};
 
 use crate::types::{CallConv, Flags, FunctionCalls};
 use codes::bits::has_bit;
@@ -51,42 +51,17 @@ pub(crate) fn read_flags(n: u32) -> Flags
 }
 
 impl CallConv {
-    fn number(self) -> u8
-        ensures { result ≡ conv_number self }
-    {
-        match self {
-            CallConv::Fast => 0,
-            CallConv::Tail => 1,
-            CallConv::SystemV => 2,
-            CallConv::WindowsFastcall => 3,
-            CallConv::AppleAarch64 => 4,
-            CallConv::Probestack => 5,
-            CallConv::Winch => 6,
-            CallConv::PreserveAll => 7,
-        }
-    }
-
     pub fn is(self, conv: CallConv) -> bool
         ensures { result ≡ same self conv }
     {
-        self.number() == conv.number()
+        self == conv
     }
 }
 
 impl FunctionCalls {
-    fn number(self) -> u8
-        ensures { result ≡ calls_number self }
-    {
-        match self {
-            FunctionCalls::None => 0,
-            FunctionCalls::TailOnly => 1,
-            FunctionCalls::Regular => 2,
-        }
-    }
-
     pub fn is(self, calls: FunctionCalls) -> bool
         ensures { result ≡ alike self calls }
     {
-        self.number() == calls.number()
+        self == calls
     }
 }

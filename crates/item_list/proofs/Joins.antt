@@ -1,6 +1,8 @@
 -- Putting items behind a list, piece by piece.
-use Rattle.std.proofs.Common.{◌≡◌, ℕ, zero, suc, ◌≤◌, List, [], ◌∷◌, ◌++◌, length, take, sym, refl, ap, ◌∙◌, append_assoc, append-nil, arith}
-use Rattle.std.proofs.lemmas.List.{length-take, take_all}
+use Rattle.std.proofs.Common.{◌≡◌, ℕ, ◌≤◌, List, [], ◌∷◌, ◌++◌, length, take, sym, refl, ap, ◌∙◌, append_assoc, append-nil, arith}
+use Rattle.std.proofs.lemmas.Grind.{common_steps}
+use Rattle.std.proofs.lemmas.List.{take_all}
+use Rattle.fixed_list.proofs.Short.{items_short}
 use Rattle.a64.specs.declared.inst.Inst.{Inst}
 use Rattle.item_list.specs.Items.{code}
 use Rattle.item_list.specs.Limits.{cell_count}
@@ -9,20 +11,15 @@ use Rattle.sink.specs.declared.item.Item.{Item}
 use Rattle.item_list.specs.declared.ItemList.{ItemList}
 
 take_front : {X : Type 0} (n : ℕ) (xs ys : List X) → take n (take n xs ++ ys) ≡ take n (xs ++ ys)
-take_front zero xs ys = refl
-take_front (suc n) [] ys = refl
-take_front (suc n) (x ∷ xs) ys = ap (λ r. x ∷ r) (take_front n xs ys)
+take_front n xs ys = grind (arith, common_steps)
 
 pub joined_joined : (xs a b : List Item) → joined (joined xs a) b ≡ joined xs (a ++ b)
 unfolding joined
 joined_joined xs a b = take_front cell_count (xs ++ a) b ∙ ap (take cell_count) (append_assoc xs a b)
 
-pub listed_short : (l : ItemList) → length (listed l) ≤ cell_count
-listed_short l = let e = length-take l.count l.cells in let h = l.within in omega arith
-
 pub joined_none : (l : ItemList) → joined (listed l) [] ≡ listed l
 unfolding joined
-joined_none l = ap (take cell_count) (append-nil (listed l)) ∙ take_all cell_count (listed l) (listed_short l)
+joined_none l = ap (take cell_count) (append-nil (listed l)) ∙ take_all cell_count (listed l) (items_short l.items)
 
 -- Nothing is put.
 pub none : (x : ItemList) → Puts x x []

@@ -1,6 +1,8 @@
 -- Unwind notes in numbers: a kind, a place and two words.
-use Rattle.std.specs.Prelude.{◌≡◌, ℕ, ◌+◌, ◌*◌, ◌/◌, ◌%◌, ◌<◌, cond, not, List, [], ◌∷◌, Option, MatchOption, ◌==◌, ◌≢◌}
+use Rattle.std.specs.Prelude.{◌≡◌, ℕ, ◌+◌, ◌*◌, ◌/◌, ◌%◌, ◌^◌, ◌<◌, ◌≤◌, cond, not, List, [], ◌∷◌, Result, MatchResult, ◌==◌, ◌≢◌}
 use Rattle.a64.specs.Words.{flag}
+use Rattle.notes.specs.declared.FarPlace.{FarPlace}
+use Rattle.notes.specs.declared.NoNote.{NoNote}
 use Rattle.notes.specs.declared.Note.{Note}
 use Rattle.notes.specs.declared.Parts.{Parts}
 use Rattle.notes.specs.declared.UnwindInst.{UnwindInst}
@@ -26,9 +28,13 @@ Fits (StackAlloc size) = Unit {0}
 Fits (SaveReg offset reg) = reg < 256
 Fits (Aarch64SetPointerAuth on) = Unit {0}
 
+-- The words of a note, or nothing exactly where its place has more than 24 bits.
+abbrev pub WordsOf : Note → Result (List ℕ) FarPlace → Type 0
+WordsOf n r = MatchResult r (λ ws. (n.place < 2 ^ 24) × (ws ≡ words_of n)) (λ _. 2 ^ 24 ≤ n.place)
+
 -- The note that three words stand for, or nothing where they stand for none.
-abbrev pub NoteOf : List ℕ → Option Note → Type 0
-NoteOf ws r = MatchOption r ((n : Note) → Fits n.inst → words_of n ≢ ws) (λ n. words_of n ≡ ws)
+abbrev pub NoteOf : List ℕ → Result Note NoNote → Type 0
+NoteOf ws r = MatchResult r (λ n. words_of n ≡ ws) (λ _. (n : Note) → Fits n.inst → words_of n ≢ ws)
 
 -- The case of a kind, from its two words.
 abbrev pub inst_from_of : ℕ → ℕ → ℕ → UnwindInst

@@ -1,8 +1,8 @@
 // Unwind notes, and the three words that stand for one.
 #![tactic(auto)]
 
-ghost use Rattle.std.specs.Prelude.{◌≡◌, ℕ, ◌%◌, ◌^◌, ◌<◌, ◌≤◌, [], ◌∷◌, MatchOption};
-ghost use Rattle.notes.specs.Notes.{NoteOf, inst_from_of, note_from_of, parts_of, words_of};
+ghost use Rattle.std.specs.Prelude.{◌≡◌, ℕ, ◌<◌};
+ghost use Rattle.notes.specs.Notes.{NoteOf, WordsOf, inst_from_of, note_from_of, parts_of};
 
 #[derive(Clone, Copy)]
 pub enum UnwindInst {
@@ -37,80 +37,80 @@ pub struct Note {
     pub inst: UnwindInst,
 }
 
-// The number of a note's case, and its two words.
-#[derive(Clone, Copy)]
+// The number of a note's case in the format, and its two words.
+#[derive(Clone, Copy, PartialEq, Eq)]
 pub struct Parts {
     pub kind: u32,
     pub a: u32,
     pub b: u32,
 }
 
-impl UnwindInst {
-    // The case's number with its values, unused words 0.
-    pub fn parts(self) -> Parts
-        ensures value { result ≡ parts_of self }
-        ensures back { (result.kind < 256) × (inst_from_of result.kind result.a result.b ≡ self) }
+// A note's place has more than 24 bits, so that no three words stand for it.
+#[derive(Clone, Copy, Debug)]
+pub struct FarPlace;
+
+// No note has the three words.
+#[derive(Clone, Copy, Debug)]
+pub struct NoNote;
+
+// The case's number with its values, unused words 0.
+impl From<UnwindInst> for Parts {
+    ghost from_gives = { λ x parts. parts ≡ parts_of x };
+
+    fn from(inst: UnwindInst) -> Parts
+        ensures value { result ≡ parts_of inst }
+        ensures back { (result.kind < 256) × (inst_from_of result.kind result.a result.b ≡ inst) }
     {
-        match self {
+        let (kind, a, b) = match inst {
             UnwindInst::PushFrameRegs {
                 offset_upward_to_caller_sp,
-            } => Parts {
-                kind: 0,
-                a: offset_upward_to_caller_sp,
-                b: 0,
-            },
+            } => (0, offset_upward_to_caller_sp, 0),
             UnwindInst::DefineNewFrame {
                 offset_upward_to_caller_sp,
                 offset_downward_to_clobbers,
-            } => Parts {
-                kind: 1,
-                a: offset_upward_to_caller_sp,
-                b: offset_downward_to_clobbers,
-            },
-            UnwindInst::StackAlloc { size } => Parts {
-                kind: 2,
-                a: size,
-                b: 0,
-            },
+            } => (1, offset_upward_to_caller_sp, offset_downward_to_clobbers),
+            UnwindInst::StackAlloc { size } => (2, size, 0),
             UnwindInst::SaveReg {
                 clobber_offset,
                 reg,
-            } => Parts {
-                kind: 3,
-                a: clobber_offset,
-                b: reg as u32,
-            },
-            UnwindInst::Aarch64SetPointerAuth { return_addresses } => Parts {
-                kind: 4,
-                a: if return_addresses { 1 } else { 0 },
-                b: 0,
-            },
-        }
+            } => (3, clobber_offset, u32::from(reg)),
+            UnwindInst::Aarch64SetPointerAuth { return_addresses } => {
+                (4, u32::from(return_addresses), 0)
+            }
+        };
+        Parts { kind, a, b }
     }
 }
 
-impl Note {
-    // The three words of the note, if the place has no more than 24 bits.
-    pub fn words(self) -> Option<[u32; 3]>
-        ensures { MatchOption result (2 ^ 24 ≤ self.place) (λ ws. (self.place < 2 ^ 24) × (ws ≡ words_of self)) }
-    {
-        if self.place >= 0x1000000 {
-            return None;
-        }
-        let parts = self.inst.parts();
-        Some([parts.kind + 256 * self.place, parts.a, parts.b])
-    }
+// The three words of a note, if its place has no more than 24 bits.
+impl TryFrom<Note> for [u32; 3] {
+    type Error = FarPlace;
 
-    // The note with these three words, if there is one.
-    pub fn from_words(first: u32, a: u32, b: u32) -> Option<Note>
-        ensures { NoteOf (first ∷ a ∷ b ∷ []) result }
-    {
+    ghost try_from_gives = { WordsOf };
+
+    fn try_from(note: Note) -> Result<[u32; 3], FarPlace> {
+        if note.place >= 0x1000000 {
+            return Err(FarPlace);
+        }
+        let parts = Parts::from(note.inst);
+        Ok([parts.kind + 256 * note.place, parts.a, parts.b])
+    }
+}
+
+// The note with these three words, if there is one.
+impl TryFrom<[u32; 3]> for Note {
+    type Error = NoNote;
+
+    ghost try_from_gives = { NoteOf };
+
+    fn try_from(words: [u32; 3]) -> Result<Note, NoNote> {
+        let [first, a, b] = words;
         let note = note_from(first, a, b);
-        let parts = note.inst.parts();
-        if parts.kind == first % 256 && parts.a == a && parts.b == b {
-            Some(note)
+        let kind = first % 256;
+        if Parts::from(note.inst) == (Parts { kind, a, b }) {
+            Ok(note)
         } else {
-            None
+            Err(NoNote)
         }
     }
 }

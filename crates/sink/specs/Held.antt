@@ -1,5 +1,6 @@
 -- What a sink means, and what each call makes of it.
 use Rattle.std.specs.Prelude.{◌≡◌, ℕ, ◌+◌, ◌-◌, ◌*◌, ◌<◌, ◌≤◌, min, cond, ◌⊎◌, List, [], ◌∷◌, ◌++◌, length, take, Some, None, Option, Result, MatchResult, nat_lt, slice_index_or}
+use Rattle.std.specs.List.{position_from}
 use Rattle.a64.specs.Words.{Reads}
 use Rattle.a64.specs.declared.inst.Inst.{Inst}
 use Rattle.codec.specs.Unread.{unread}
@@ -82,8 +83,7 @@ Read xs i r = MatchResult r (λ x. (i < length xs) × (x ≡ slice_index_or xs i
 
 -- The index, counted from k, of the first note whose place is above i.
 abbrev pub stray : ℕ → ℕ → List Note → Option ℕ
-stray i k [] = None
-stray i k (x ∷ xs) = cond (nat_lt i x.place) (Some k) (stray i (k + 1) xs)
+stray i k xs = position_from (λ x. nat_lt i x.place) k xs
 
 -- The index at which a rewind to i instructions and n notes is refused: the first of three tests that fails.
 abbrev pub late : Held → ℕ → ℕ → Option ℕ

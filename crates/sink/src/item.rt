@@ -24,12 +24,8 @@ fn readable(items: &[Item]) -> Result<(), Refusal>
     ensures { MatchResult result (λ _. AllRead items.now) (λ e. (AllRead items.now → ⊥) × (told e ≡ unread)) }
 {
     for item in items {
-        match item {
-            Item::Inst(x) => match encode(*x) {
-                Ok(_) => {}
-                Err(e) => return Err(e),
-            },
-            Item::Note(_) => {}
+        if let Item::Inst(x) = item {
+            encode(*x)?;
         }
     }
     Ok(())
@@ -85,9 +81,6 @@ pub fn put_readable<S: Sink>(sink: &mut S, list: Readable<'_>) -> Result<(), Ref
 pub fn put_items<S: Sink>(sink: &mut S, items: &[Item]) -> Result<(), Refusal>
     ensures { PutItems (record { inst = S.InstPrice.Price.units; note = S.NotePrice.Price.units }) (S.held sink.old) items.now (S.held sink.new) result }
 {
-    match readable(items) {
-        Ok(_) => {}
-        Err(e) => return Err(e),
-    }
+    readable(items)?;
     put_readable(sink, Readable { items })
 }

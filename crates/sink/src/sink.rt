@@ -45,12 +45,7 @@ pub fn not_held(i: usize) -> Refusal
 pub fn first_stray(notes: &[Note], i: usize) -> Option<usize>
     ensures { result ≡ stray i 0 notes.now }
 {
-    for (k, note) in notes.iter().enumerate() {
-        if note.place as usize > i {
-            return Some(k);
-        }
-    }
-    None
+    notes.iter().position(|note| note.place as usize > i)
 }
 
 pub trait Sink {

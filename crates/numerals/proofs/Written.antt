@@ -1,9 +1,16 @@
 -- The turns of reading digits, and what the result is.
-use Rattle.std.proofs.Common.{◌≡◌, ℕ, ◌+◌, ◌*◌, ◌^◌, ◌<◌, ◌≤◌, Bool, true, false, cond, eqb, ltb, ◌⊎◌, List, ◌∷◌, length, get_or, drop, IfSome, Some, None, Option, sym, refl, ap, ◌∙◌, subst, inl, inr, ⊎_elim, arith}
+use Rattle.std.proofs.Common.{◌≡◌, ℕ, ◌+◌, ◌*◌, ◌^◌, ◌<◌, ◌≤◌, Bool, true, false, cond, eqb, ltb, ◌⊎◌, List, ◌∷◌, length, get_or, drop, IfSome, Some, None, Option, sym, refl, ap, ◌∙◌, subst, inl, inr, ⊎_elim, arith, lit<}
 use Rattle.std.proofs.lemmas.List.{at_drop_all, at_drop_more}
 use Rattle.std.proofs.lemmas.Bool.{cond-false, cond-true, cond_both, lt-ltb, ltb-true, ltb-false, eq-eqb, ne_eqb}
+use Rattle.std.specs.Char.{digit_value}
+use Rattle.numerals.specs.declared.number.Base.{Base}
+use Rattle.numerals.specs.declared.number.Base.TheVariants.{Decimal, Hexadecimal}
 use Rattle.numerals.proofs.Growth.{grown, short}
-use Rattle.numerals.specs.Numbers.{below, code_of, longer_by, value_after, value_in, worth}
+use Rattle.numerals.specs.Numbers.{below, code_of, longer_by, radix_of, value_after, value_in}
+
+pub positive_radix : (b : Base) → 0 < radix_of b
+positive_radix Decimal = lit< tt
+positive_radix Hexadecimal = lit< tt
 
 some_value : (b d : Bool) (m v : ℕ) → Some m ≡ cond b (cond d (Some v) None) None → (b ≡ true) × (d ≡ true) × (m ≡ v)
 some_value true true m v e = (refl, refl, cc)
@@ -29,17 +36,17 @@ module _ (base n i : ℕ) (s : List ℕ) (h : Sofar base n i s) where
 
   pub one_more : (m : ℕ) → i < length s → Some m ≡ longer_by base n (get_or s i 0) → Sofar base m (i + 1) s
   one_more m lt e =
-      let v : ℕ = n * base + worth (get_or s i 0) in
-      let got : (ltb (worth (get_or s i 0)) base ≡ true) × (ltb v (2 ^ 64) ≡ true) × (m ≡ v) = some_value (ltb (worth (get_or s i 0)) base) (ltb v (2 ^ 64)) m v e in
+      let v : ℕ = n * base + digit_value (get_or s i 0) in
+      let got : (ltb (digit_value (get_or s i 0)) base ≡ true) × (ltb v (2 ^ 64) ≡ true) × (m ≡ v) = some_value (ltb (digit_value (get_or s i 0)) base) (ltb v (2 ^ 64)) m v e in
       record {
         fits = omega (arith, got.2, ltb-true v (2 ^ 64) got.1);
-        same = ap (λ k. value_after base k (drop (i + 1) s)) got.2 ∙ sym (cond-true (ltb (worth (get_or s i 0)) base) (value_after base v (drop (i + 1) s)) None got.0) ∙ sym (next lt) ∙ h.same;
+        same = ap (λ k. value_after base k (drop (i + 1) s)) got.2 ∙ sym (cond-true (ltb (digit_value (get_or s i 0)) base) (value_after base v (drop (i + 1) s)) None got.0) ∙ sym (next lt) ∙ h.same;
       }
 
   pub too_long : 0 < base → i < length s → None ≡ longer_by base n (get_or s i 0) → None ≡ value_in base s
   too_long pos lt e =
-      let v : ℕ = n * base + worth (get_or s i 0) in
-      let b : Bool = ltb (worth (get_or s i 0)) base in
+      let v : ℕ = n * base + digit_value (get_or s i 0) in
+      let b : Bool = ltb (digit_value (get_or s i 0)) base in
       let rest : Option ℕ = value_after base v (drop (i + 1) s) in
       let none : below (2 ^ 64) (cond b rest None) ≡ None =
       ⊎_elim
@@ -66,16 +73,3 @@ eight s g long is =
     let small : IfSome (value_after 16 0 s) (λ v. v < 2 ^ 32) =
     subst (λ k. IfSome (value_after 16 0 s) (λ v. v < 1 * 16 ^ k)) long (short 1 0 s (omega arith)) in
     ap (below (2 ^ 32)) (is ∙ filled 16 s (omega arith) ∙ fit (2 ^ 64) (value_after 16 0 s) (wider (value_after 16 0 s) small)) ∙ fit (2 ^ 32) (value_after 16 0 s) small ∙ sym (cond-true (eqb (length s) 8) (value_after 16 0 s) None (eq-eqb (length s) 8 long))
-
--- a front is there, and what follows it is left
-pub front_off : (s r : List ℕ) (b : Bool) (n : ℕ) → b ≡ true → r ≡ drop n s → Some r ≡ cond b (Some (drop n s)) None
-front_off s r b n h e = ap (λ x. Some x) e ∙ sym (cond-true b (Some (drop n s)) None h)
-
--- a word with a front that is taken off, or without it
-pub with_front : {A : Type 0} (b : Bool) (h d : List ℕ) (f : List ℕ → A) (y : A) → Some h ≡ cond b (Some d) None → f h ≡ cond b (f d) y
-with_front true h d f y e = let same : h ≡ d = cc in ap f same
-with_front false h d f y e = let z : ◌≡◌ {A = ℕ} 0 1 = cc in absurd (omega arith)
-
-pub with_none : {A : Type 0} (b : Bool) (d : List ℕ) (x y : A) → None ≡ cond b (Some d) None → y ≡ cond b x y
-with_none true d x y e = let z : ◌≡◌ {A = ℕ} 0 1 = cc in absurd (omega arith)
-with_none false d x y e = refl

@@ -1,15 +1,18 @@
 -- What number a text writes. Texts are lists of bytes.
-use Rattle.std.specs.Prelude.{ℕ, ◌+◌, ◌-◌, ◌*◌, ◌^◌, Bool, cond, ◌&&◌, List, [], ◌∷◌, length, drop, ℤ, pos, neg_ℤ, Some, None, Option, ◌==◌, nat_le, nat_lt, slice_index}
+use Rattle.numerals.specs.declared.number.Base.{Base}
+use Rattle.numerals.specs.declared.number.Base.TheVariants.{Decimal, Hexadecimal}
+use Rattle.std.specs.Char.{digit_value}
+use Rattle.std.specs.Prelude.{ℕ, ◌+◌, ◌*◌, ◌^◌, Bool, cond, ◌&&◌, List, [], ◌∷◌, length, drop, ℤ, pos, neg_ℤ, Some, None, Option, ◌==◌, nat_le, nat_lt, slice_index}
 
--- what a byte is worth as a digit: 0 to 9, then a to f in either case; 255 where it is none
-abbrev pub worth : ℕ → ℕ
-worth b =
-    cond (nat_le 48 b && nat_le b 57) (b - 48) (cond (nat_le 97 b && nat_le b 102) (b - 87) (cond (nat_le 65 b && nat_le b 70) (b - 55) 255))
+-- the base of decimal and of hexadecimal digits
+abbrev pub radix_of : Base → ℕ
+radix_of Decimal = 10
+radix_of Hexadecimal = 16
 
 -- the number that digits write which follow those of n, or none at a byte that is no digit
 abbrev pub value_after : ℕ → ℕ → List ℕ → Option ℕ
 value_after base n [] = Some n
-value_after base n (x ∷ xs) = cond (nat_lt (worth x) base) (value_after base (n * base + worth x) xs) None
+value_after base n (x ∷ xs) = cond (nat_lt (digit_value x) base) (value_after base (n * base + digit_value x) xs) None
 
 -- a number, if it is below a limit
 abbrev pub below : ℕ → Option ℕ → Option ℕ
@@ -18,7 +21,7 @@ below limit (Some n) = cond (nat_lt n limit) (Some n) None
 
 -- a number with one digit more, if it has 64 bits
 abbrev pub longer_by : ℕ → ℕ → ℕ → Option ℕ
-longer_by base n x = cond (nat_lt (worth x) base) (below (2 ^ 64) (Some (n * base + worth x))) None
+longer_by base n x = cond (nat_lt (digit_value x) base) (below (2 ^ 64) (Some (n * base + digit_value x))) None
 
 -- the number that one digit or more write, if it has 64 bits
 abbrev pub value_in : ℕ → List ℕ → Option ℕ

@@ -42,6 +42,10 @@ first_word s = unless_empty (trimmed s) (take (word_length (trimmed s)) (trimmed
 abbrev pub after_word : List ℕ → List ℕ
 after_word s = drop (word_length (trimmed s)) (trimmed s)
 
+-- what follows the first `b`, if there is one
+abbrev pub after : ℕ → List ℕ → Option (List ℕ)
+after b s = cond (nat_lt (up_to b s) (length s)) (Some (drop (up_to b s + 1) s)) None
+
 -- the first part, where a text is left: what stands before the first separator
 abbrev pub first_part : ℕ → Option (List ℕ) → Option (List ℕ)
 first_part b None = None
@@ -50,4 +54,9 @@ first_part b (Some s) = Some (take (up_to b s) s)
 -- what follows the first separator, if there is one
 abbrev pub after_part : ℕ → Option (List ℕ) → Option (List ℕ)
 after_part b None = None
-after_part b (Some s) = cond (nat_lt (up_to b s) (length s)) (Some (drop (up_to b s + 1) s)) None
+after_part b (Some s) = after b s
+
+-- no text has more parts than this
+abbrev pub parts_at_most : Option (List ℕ) → ℕ
+parts_at_most None = 0
+parts_at_most (Some s) = length s + 1

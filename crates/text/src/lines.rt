@@ -1,7 +1,8 @@
 // The lines of a text, each without its end.
+ghost use Rattle.std.specs.Iterator.{at_most};
 ghost use Rattle.std.specs.Option.{option_map};
 ghost use Rattle.text.specs.Cuts.{after_line, first_line};
-ghost use Rattle.std.specs.Prelude.{◌≡◌};
+ghost use Rattle.std.specs.Prelude.{◌≡◌, length};
 
 use crate::find;
 
@@ -16,17 +17,23 @@ impl<'a> Lines<'a> {
     {
         Lines { rest: text }
     }
+}
 
-    pub fn next_line(&mut self) -> Option<&'a [u8]>
-        ensures line { option_map (λ x. x.now) result ≡ first_line self.old.rest.now }
-        ensures rest { self.new.rest.now ≡ after_line self.old.rest.now }
-    {
+impl<'a> Iterator for Lines<'a> {
+    type Item = &'a [u8];
+
+    // The first line, and what follows it.
+    ghost next_gives = { λ s line t. (option_map (λ x. x.now) line ≡ first_line s.rest.now) × (t.rest.now ≡ after_line s.rest.now) };
+
+    ghost remaining = { λ s. at_most (length s.rest.now) };
+
+    fn next(&mut self) -> Option<&'a [u8]> {
         let s = self.rest;
         if s.is_empty() {
             return None;
         }
-        let end = find::byte(s, b'\n');
-        self.rest = find::past(s, end);
-        Some(&s[0..end])
+        let (line, rest) = find::cut(s, b'\n');
+        self.rest = rest.unwrap_or(&[]);
+        Some(line)
     }
 }

@@ -1,7 +1,8 @@
 // The parts of a word between separators.
+ghost use Rattle.std.specs.Iterator.{at_most};
 ghost use Rattle.std.specs.Option.{option_map};
 ghost use Rattle.std.specs.Prelude.{◌≡◌, Some};
-ghost use Rattle.text.specs.Cuts.{after_part, first_part};
+ghost use Rattle.text.specs.Cuts.{after_part, first_part, parts_at_most};
 
 use crate::find;
 
@@ -21,15 +22,20 @@ impl<'a> Parts<'a> {
             separator,
         }
     }
+}
 
-    pub fn next_part(&mut self) -> Option<&'a [u8]>
-        ensures part { option_map (λ x. x.now) result ≡ first_part self.old.separator (option_map (λ x. x.now) self.old.rest) }
-        ensures rest { option_map (λ x. x.now) self.new.rest ≡ after_part self.old.separator (option_map (λ x. x.now) self.old.rest) }
-        ensures separator { self.new.separator ≡ self.old.separator }
-    {
+impl<'a> Iterator for Parts<'a> {
+    type Item = &'a [u8];
+
+    // The first part, and what follows its separator, if there is one.
+    ghost next_gives = { λ s part t. (option_map (λ x. x.now) part ≡ first_part s.separator (option_map (λ x. x.now) s.rest)) × (option_map (λ x. x.now) t.rest ≡ after_part s.separator (option_map (λ x. x.now) s.rest)) × (t.separator ≡ s.separator) };
+
+    ghost remaining = { λ s. at_most (parts_at_most (option_map (λ x. x.now) s.rest)) };
+
+    fn next(&mut self) -> Option<&'a [u8]> {
         let s = self.rest?;
-        let end = find::byte(s, self.separator);
-        self.rest = find::after(s, end);
-        Some(&s[0..end])
+        let (part, rest) = find::cut(s, self.separator);
+        self.rest = rest;
+        Some(part)
     }
 }

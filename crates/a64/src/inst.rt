@@ -69,14 +69,14 @@ pub enum MoveWideOp {
 }
 
 // A key of pointer authentication.
-#[derive(Clone, Copy)]
+#[derive(Clone, Copy, PartialEq, Eq)]
 pub enum Key {
     A,
     B,
 }
 
 // What a return address is sealed with besides the key.
-#[derive(Clone, Copy)]
+#[derive(Clone, Copy, PartialEq, Eq)]
 pub enum Modifier {
     Zero,
     Sp,

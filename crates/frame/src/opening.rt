@@ -1,4 +1,6 @@
 // The pieces of a prologue, in the order in which they run.
+#![tactic(auto, using(crate::proofs::Putting::puts))]
+
 ghost use Rattle.a64.specs.Operands.{uimm12_of};
 ghost use Rattle.std.specs.Prelude.{◌≡◌, pos};
 ghost use Rattle.a64.specs.declared.inst.Inst.TheVariants.{BtiC};
@@ -10,12 +12,12 @@ ghost use Rattle.frame.specs.Pieces.{gen_clobber_save_of, gen_prologue_frame_set
 ghost use Rattle.layout.specs.Slots.{slots_of};
 ghost use Rattle.sheet.specs.Checks.{plain};
 
-use crate::forms::{mov_fp_sp, push_pair};
-use crate::parts::{api_key, has_setup, incoming_args_diff, is_sp, probe_size, stack_size, unwind};
+use crate::forms::{mov_fp_sp, move_pair};
+use crate::parts::{api_key, has_setup, incoming_args_diff, probe_size, stack_size, unwind};
 use crate::slots::at::slot_at;
 use crate::slots::moves::save_slot;
 use a64::imm::{SImm7Scaled, UImm12Scaled};
-use a64::inst::{AddSub, ApiKey, Dir, Inst, PairClass, PairMode, Reg};
+use a64::inst::{AddSub, ApiKey, Dir, Inst, Modifier, PairClass, PairMode, Reg};
 use item_list::ItemList;
 use layout::FrameLayout;
 use notes::UnwindInst;
@@ -36,7 +38,7 @@ fn landing_pad(on: bool, list: &mut ItemList)
 fn needs_pad(use_bti: bool, key: ApiKey) -> bool
     ensures { result ≡ needs_pad_of use_bti key.modifier }
 {
-    use_bti && !is_sp(key.modifier)
+    use_bti && key.modifier != Modifier::Sp
 }
 
 // The landing pad and the seal.
@@ -82,7 +84,7 @@ fn push_frame(layout: &FrameLayout, list: &mut ItemList)
 {
     if has_setup(layout) {
         // stp fp, lr, [sp, #-16]!
-        list.inst(push_pair(PairClass::X, 29, 30));
+        list.inst(move_pair(Dir::Store, PairClass::X, 29, 30));
         unwind(
             layout,
             UnwindInst::PushFrameRegs {
@@ -109,6 +111,7 @@ fn reload_offset(amount: u32) -> Option<UImm12Scaled>
 }
 
 // FP from so far above SP.
+#[tactic(auto, using(crate::proofs::Putting::puts), unfolding(crate::specs::Pieces::tail_reload_of))]
 fn tail_reload(amount: u32, list: &mut ItemList)
     ensures { Puts list.old list.new (code (tail_reload_of amount)) }
 {
@@ -153,6 +156,7 @@ fn move_frame(layout: &FrameLayout, amount: u32, list: &mut ItemList)
 }
 
 // Room for the arguments of a tail call, where it needs more than there is.
+#[tactic(auto, using(crate::proofs::Putting::puts, std::proofs::lemmas::Bool::Decides::nat_tests))]
 fn resize_incoming(layout: &FrameLayout, list: &mut ItemList)
     ensures { Puts list.old list.new (grows (plain layout.now.sheet)) }
 {
@@ -181,6 +185,7 @@ fn define_frame(layout: &FrameLayout, list: &mut ItemList)
 }
 
 // The highest slot is pushed first.
+#[tactic(auto, using(crate::proofs::Putting::puts, crate::proofs::SlotLaws::slot_count, crate::proofs::SlotLaws::saved_more, std::proofs::lemmas::List::drop_all))]
 fn save_all(layout: &FrameLayout, list: &mut ItemList)
     ensures { Puts list.old list.new (save_slots (plain layout.now.sheet) (slots_of (plain layout.now.sheet)) 0) }
 {
@@ -190,6 +195,7 @@ fn save_all(layout: &FrameLayout, list: &mut ItemList)
 }
 
 // The fixed storage and the outgoing arguments.
+#[tactic(auto, using(crate::proofs::Putting::puts, std::proofs::lemmas::Bool::Decides::nat_tests))]
 fn allocate(layout: &FrameLayout, list: &mut ItemList)
     ensures { Puts list.old list.new (allocates (plain layout.now.sheet)) }
 {
@@ -217,6 +223,7 @@ fn probe_frame(layout: &FrameLayout, list: &mut ItemList)
     }
 }
 
+#[tactic(auto, using(crate::proofs::Putting::puts), unfolding(crate::specs::Pieces::prologue))]
 pub fn list_prologue(layout: &FrameLayout, list: &mut ItemList)
     ensures { Puts list.old list.new (prologue_of (plain layout.now.sheet)) }
 {

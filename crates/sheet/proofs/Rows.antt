@@ -1,15 +1,13 @@
 -- The rows one after the other.
-use Rattle.std.proofs.Common.{◌≡◌, ◌<◌, Bool, true, false, cond, ◌||◌, ltb, List, [], ◌∷◌, ◌++◌, is_some, Some, None, Option, sym, refl, ap, ◌∙◌, arith}
+use Rattle.std.proofs.Common.{◌≡◌, ◌<◌, Bool, true, false, cond, ◌||◌, ltb, List, [], ◌∷◌, ◌++◌, is_some, Some, None, Option, sym, refl, ap, ◌∙◌}
 use Rattle.std.proofs.lemmas.Bool.{lt-ltb, true≢false}
-use Rattle.std.proofs.lemmas.Bool.Decides.{nat_tests}
 use Rattle.refusal.specs.Told.{Told, Row, first}
 use Rattle.refusal.specs.declared.Cause.{Cause}
 use Rattle.sheet.specs.Codes.{code_rows}
-use Rattle.sheet.specs.Plain.{PlainSheet, plain_of, alike}
+use Rattle.sheet.specs.Plain.{PlainSheet, alike}
 use Rattle.sheet.specs.declared.types.FunctionCalls.TheVariants.{Regular}
 use Rattle.sheet.specs.Saved.{sets_up}
-use Rattle.sheet.specs.Refused.{row, late_rows, plain_rows, out_of_range, refused}
-use Rattle.sheet.specs.declared.types.Sheet.{Sheet}
+use Rattle.sheet.specs.Refused.{row, late_rows, plain_rows}
 
 pub first_front : (a b : List Row) (t : Told) → first a ≡ Some t → first (a ++ b) ≡ Some t
 first_front [] b t h = absurd (true≢false (sym (ap is_some h)))
@@ -56,9 +54,3 @@ late_tell p o dyn h late =
     first_next (row Cause.DynamicVector p.flags.dynamic_vector) (code_rows p.flags.enable_pinned_reg [] 0 p.clobbers ++ late_rows p.conv p.flags p.sizes (sets_up p)) dyn
     ∙ first_back (code_rows p.flags.enable_pinned_reg [] 0 p.clobbers) (late_rows p.conv p.flags p.sizes (sets_up p)) h
     ∙ late (sets_up p) (incoming_sets_up p)
-
-pub ranged : (s : Sheet) → s.call_conv < 8 → s.function_calls < 3 → s.flags < 2048 → out_of_range s ≡ false
-ranged s a b c = grind (arith, nat_tests)
-
-pub in_range : (s : Sheet) (p : PlainSheet) (o : Option Told) → out_of_range s ≡ false → plain_of s ≡ p → first (plain_rows p) ≡ o → refused s ≡ o
-in_range s p o range e h = first_next (row Cause.OutOfRange (out_of_range s)) (plain_rows (plain_of s)) range ∙ ap (λ (q : PlainSheet). first (plain_rows q)) e ∙ h

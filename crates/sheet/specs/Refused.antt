@@ -1,7 +1,8 @@
 -- The refusals of a sheet, row by row.
-use Rattle.std.specs.Prelude.{ℕ, ◌+◌, ◌%◌, ◌^◌, Bool, not, ◌&&◌, ◌||◌, List, [], ◌∷◌, ◌++◌, is_some, Option, ◌==◌, nat_le, nat_lt}
-use Rattle.refusal.specs.Told.{Told, Row, first}
+use Rattle.std.specs.Prelude.{◌≡◌, ℕ, ◌+◌, ◌%◌, ◌^◌, Bool, not, ◌&&◌, ◌||◌, List, [], ◌∷◌, ◌++◌, is_some, Option, Result, ◌==◌, nat_le, nat_lt}
+use Rattle.refusal.specs.Told.{Told, Row, first, Answers}
 use Rattle.refusal.specs.declared.Cause.{Cause}
+use Rattle.refusal.specs.declared.Refusal.{Refusal}
 use Rattle.a64.specs.Operands.{imm12_of}
 use Rattle.sheet.specs.Codes.{row_at, code_rows}
 use Rattle.sheet.specs.Key.{key_of}
@@ -17,6 +18,10 @@ use Rattle.sheet.specs.declared.types.Sheet.{Sheet}
 -- A row that speaks of no place.
 abbrev pub row : Cause → Bool → Row
 row cause test = row_at cause 0 test
+
+-- A number is read as f says where it is below the limit, and is refused otherwise.
+abbrev pub Reads : {X : Type 0} → ℕ → (ℕ → X) → ℕ → Result X Refusal → Type 0
+Reads limit f n r = Answers (first (row Cause.OutOfRange (nat_le limit n) ∷ [])) (λ x. x ≡ f n) (Unit {0}) r
 
 -- No multiple of 16.
 abbrev pub uneven : ℕ → Bool
@@ -60,9 +65,13 @@ plain_rows p =
     row Cause.DynamicVector p.flags.dynamic_vector
     ∷ (code_rows p.flags.enable_pinned_reg [] 0 p.clobbers ++ late_rows p.conv p.flags p.sizes (sets_up p))
 
+-- The row of a sheet's numbers.
+abbrev pub range_rows : Sheet → List Row
+range_rows s = row Cause.OutOfRange (out_of_range s) ∷ []
+
 -- All rows of a raw sheet.
 abbrev pub rows : Sheet → List Row
-rows s = row Cause.OutOfRange (out_of_range s) ∷ plain_rows (plain_of s)
+rows s = range_rows s ++ plain_rows (plain_of s)
 
 -- The refusal of a sheet, or none.
 abbrev pub refused : Sheet → Option Told

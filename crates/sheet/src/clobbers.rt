@@ -4,9 +4,10 @@ ghost use Rattle.refusal.specs.Told.{Answers, first};
 ghost use Rattle.sheet.specs.Codes.{allowed, code_rows};
 ghost use Rattle.codes.specs.Items.{items};
 
+use crate::refused::refusal_at;
 use codes::list::CodeList;
 use codes::marks::Marks;
-use refusal::{Cause, Layer, Refusal};
+use refusal::{Cause, Refusal};
 
 fn is_allowed(pinned: bool, c: u8) -> bool
     ensures { result ≡ allowed pinned c }
@@ -23,18 +24,10 @@ pub(crate) fn check_codes(pinned: bool, codes: &[u8]) -> Result<CodeList, Refusa
     for (i, c) in codes.iter().enumerate() {
         let code = *c;
         if !is_allowed(pinned, code) {
-            return Err(Refusal {
-                cause: Cause::CodeNotAllowed,
-                layer: Layer::Sheet,
-                place: i as u64,
-            });
+            return Err(refusal_at(Cause::CodeNotAllowed, i));
         }
         if marks.has(code) {
-            return Err(Refusal {
-                cause: Cause::CodeRepeated,
-                layer: Layer::Sheet,
-                place: i as u64,
-            });
+            return Err(refusal_at(Cause::CodeRepeated, i));
         }
         marks.add(code);
         // There is room: each register is seen once.

@@ -10,7 +10,7 @@ pub fn select_api_key(flags: Flags, call_conv: CallConv, setup_frame: bool) -> O
 {
     if flags.sign_return_address && (setup_frame || flags.sign_return_address_all) {
         // A tail call may leave with another SP than it was entered with: `Tail` seals with zero.
-        let zero = call_conv.is(CallConv::Tail);
+        let zero = call_conv == CallConv::Tail;
         Some(ApiKey {
             key: if flags.sign_return_address_with_bkey {
                 Key::B

@@ -5,5 +5,7 @@ pub mod check;
 pub mod checked;
 mod clobbers;
 pub mod key;
+mod read;
 mod reads;
+mod refused;
 pub mod types;

@@ -1,92 +1,86 @@
 // Numbers read as conventions, call kinds and flags.
-ghost use Rattle.std.specs.Prelude.{◌≡◌, ◌<◌, MatchOption};
-ghost use Rattle.sheet.specs.Plain.{conv_of, calls_of, flags_of, conv_number, calls_number, same, alike};
+ghost use Rattle.std.specs.Prelude.{◌≡◌};
+ghost use Rattle.sheet.specs.Plain.{conv_of, calls_of, flags_of, same, alike};
+ghost use Rattle.sheet.specs.Refused.{Reads};
 
+use crate::refused::refusal;
 use crate::types::{CallConv, Flags, FunctionCalls};
 use codes::bits::has_bit;
+use refusal::{Cause, Refusal};
 
-pub(crate) fn read_conv(n: u32) -> Option<CallConv>
-    ensures { MatchOption result (7 < n) (λ c. (n < 8) × (c ≡ conv_of n)) }
-{
-    match n {
-        0 => Some(CallConv::Fast),
-        1 => Some(CallConv::Tail),
-        2 => Some(CallConv::SystemV),
-        3 => Some(CallConv::WindowsFastcall),
-        4 => Some(CallConv::AppleAarch64),
-        5 => Some(CallConv::Probestack),
-        6 => Some(CallConv::Winch),
-        7 => Some(CallConv::PreserveAll),
-        _ => None,
+impl TryFrom<u32> for CallConv {
+    type Error = Refusal;
+
+    ghost try_from_gives = { Reads 8 conv_of };
+
+    fn try_from(n: u32) -> Result<CallConv, Refusal> {
+        match n {
+            0 => Ok(CallConv::Fast),
+            1 => Ok(CallConv::Tail),
+            2 => Ok(CallConv::SystemV),
+            3 => Ok(CallConv::WindowsFastcall),
+            4 => Ok(CallConv::AppleAarch64),
+            5 => Ok(CallConv::Probestack),
+            6 => Ok(CallConv::Winch),
+            7 => Ok(CallConv::PreserveAll),
+            _ => Err(refusal(Cause::OutOfRange)),
+        }
     }
 }
 
-pub(crate) fn read_calls(n: u32) -> Option<FunctionCalls>
-    ensures { MatchOption result (2 < n) (λ c. (n < 3) × (c ≡ calls_of n)) }
-{
-    match n {
-        0 => Some(FunctionCalls::None),
-        1 => Some(FunctionCalls::TailOnly),
-        2 => Some(FunctionCalls::Regular),
-        _ => None,
+impl TryFrom<u32> for FunctionCalls {
+    type Error = Refusal;
+
+    ghost try_from_gives = { Reads 3 calls_of };
+
+    fn try_from(n: u32) -> Result<FunctionCalls, Refusal> {
+        match n {
+            0 => Ok(FunctionCalls::None),
+            1 => Ok(FunctionCalls::TailOnly),
+            2 => Ok(FunctionCalls::Regular),
+            _ => Err(refusal(Cause::OutOfRange)),
+        }
     }
 }
 
-pub(crate) fn read_flags(n: u32) -> Flags
-    ensures { result ≡ flags_of n }
-{
-    Flags {
-        preserve_frame_pointers: has_bit(n, 0),
-        enable_pinned_reg: has_bit(n, 1),
-        unwind_info: has_bit(n, 2),
-        enable_compact_unwind_abi: has_bit(n, 3),
-        use_bti: has_bit(n, 4),
-        sign_return_address: has_bit(n, 5),
-        sign_return_address_all: has_bit(n, 6),
-        sign_return_address_with_bkey: has_bit(n, 7),
-        has_pauth: has_bit(n, 8),
-        inline_probes: has_bit(n, 9),
-        dynamic_vector: has_bit(n, 10),
+// Bit k of the number is flag k.
+impl TryFrom<u32> for Flags {
+    type Error = Refusal;
+
+    ghost try_from_gives = { Reads 2048 flags_of };
+
+    fn try_from(n: u32) -> Result<Flags, Refusal> {
+        if n >= 2048 {
+            return Err(refusal(Cause::OutOfRange));
+        }
+        Ok(Flags {
+            preserve_frame_pointers: has_bit(n, 0),
+            enable_pinned_reg: has_bit(n, 1),
+            unwind_info: has_bit(n, 2),
+            enable_compact_unwind_abi: has_bit(n, 3),
+            use_bti: has_bit(n, 4),
+            sign_return_address: has_bit(n, 5),
+            sign_return_address_all: has_bit(n, 6),
+            sign_return_address_with_bkey: has_bit(n, 7),
+            has_pauth: has_bit(n, 8),
+            inline_probes: has_bit(n, 9),
+            dynamic_vector: has_bit(n, 10),
+        })
     }
 }
 
 impl CallConv {
-    fn number(self) -> u8
-        ensures { result ≡ conv_number self }
-    {
-        match self {
-            CallConv::Fast => 0,
-            CallConv::Tail => 1,
-            CallConv::SystemV => 2,
-            CallConv::WindowsFastcall => 3,
-            CallConv::AppleAarch64 => 4,
-            CallConv::Probestack => 5,
-            CallConv::Winch => 6,
-            CallConv::PreserveAll => 7,
-        }
-    }
-
     pub fn is(self, conv: CallConv) -> bool
         ensures { result ≡ same self conv }
     {
-        self.number() == conv.number()
+        self == conv
     }
 }
 
 impl FunctionCalls {
-    fn number(self) -> u8
-        ensures { result ≡ calls_number self }
-    {
-        match self {
-            FunctionCalls::None => 0,
-            FunctionCalls::TailOnly => 1,
-            FunctionCalls::Regular => 2,
-        }
-    }
-
     pub fn is(self, calls: FunctionCalls) -> bool
         ensures { result ≡ alike self calls }
     {
-        self.number() == calls.number()
+        self == calls
     }
 }

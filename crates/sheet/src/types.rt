@@ -1,6 +1,6 @@
 // What a sheet says of a function.
 
-#[derive(Clone, Copy)]
+#[derive(Clone, Copy, Debug, PartialEq, Eq)]
 pub enum CallConv {
     Fast,
     Tail,
@@ -13,7 +13,7 @@ pub enum CallConv {
 }
 
 // Which calls the function makes.
-#[derive(Clone, Copy)]
+#[derive(Clone, Copy, Debug, PartialEq, Eq)]
 pub enum FunctionCalls {
     None,
     TailOnly,

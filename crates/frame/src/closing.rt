@@ -1,4 +1,5 @@
 // The pieces of an epilogue, in the order in which they run.
+// Layout and list are two parameters: a struct of both would put into each contract that its layout stays.
 #![tactic(auto, using(crate::proofs::Putting::puts))]
 
 ghost use Rattle.item_list.specs.Items.{code};
@@ -13,12 +14,12 @@ use crate::forms::move_pair;
 use crate::parts::{api_key, callee_pop_size, has_setup, stack_size};
 use crate::slots::at::slot_at;
 use crate::slots::moves::move_slot;
-use a64::inst::{AddSub, ApiKey, Dir, Inst, Modifier, PairClass};
+use a64::inst::{AddSub, ApiKey, Dir, Inst, Modifier, PairClass, Reg};
 use item_list::ItemList;
 use layout::FrameLayout;
 use steps::adjust::sp_by;
 
-// The lowest slot is popped first.
+// The lowest slot is popped first. By number: an iterator of slots would be one more type.
 #[tactic(auto, using(crate::proofs::Putting::puts, crate::proofs::SlotLaws::slot_count, crate::proofs::SlotLaws::restored_more, std::proofs::lemmas::List::take_all))]
 fn restore_all(layout: &FrameLayout, list: &mut ItemList)
     ensures { Puts list.old list.new (code (restore_slots (slots_of (plain layout.now.sheet)))) }
@@ -41,7 +42,7 @@ fn pop_frame(layout: &FrameLayout, list: &mut ItemList)
 {
     if has_setup(layout) {
         // ldp fp, lr, [sp], #16
-        list.inst(move_pair(Dir::Load, PairClass::X, 29, 30));
+        list.inst(move_pair(Dir::Load, PairClass::X, Reg::FP, Reg::LR));
     }
 }
 

@@ -6,8 +6,8 @@ use a64::imm::{Imm12, SImm7Scaled, SImm9};
 use a64::inst::{AddSub, Class, Dir, Inst, Mode, PairClass, PairMode, Reg};
 
 // stp ta, tb, [sp, #-16]! or ldp ta, tb, [sp], #16
-pub(crate) fn move_pair(dir: Dir, class: PairClass, a: u8, b: u8) -> Inst
-    ensures { result ≡ move_pair_of dir class a b }
+pub(crate) fn move_pair(dir: Dir, class: PairClass, a: Reg, b: Reg) -> Inst
+    ensures { result ≡ move_pair_of dir class a.enc b.enc }
 {
     let (mode, offset) = match dir {
         Dir::Store => (PairMode::Pre, -16),
@@ -17,16 +17,16 @@ pub(crate) fn move_pair(dir: Dir, class: PairClass, a: u8, b: u8) -> Inst
         dir,
         class,
         mode,
-        rt: Reg { enc: a },
-        rt2: Reg { enc: b },
+        rt: a,
+        rt2: b,
         rn: Reg::SP,
         offset: SImm7Scaled { value: offset },
     }
 }
 
 // str ta, [sp, #-16]! or ldr ta, [sp], #16
-pub(crate) fn move_one(dir: Dir, class: Class, a: u8) -> Inst
-    ensures { result ≡ move_one_of dir class a }
+pub(crate) fn move_one(dir: Dir, class: Class, a: Reg) -> Inst
+    ensures { result ≡ move_one_of dir class a.enc }
 {
     let (mode, offset) = match dir {
         Dir::Store => (Mode::Pre, -16),
@@ -36,7 +36,7 @@ pub(crate) fn move_one(dir: Dir, class: Class, a: u8) -> Inst
         dir,
         class,
         mode,
-        rt: Reg { enc: a },
+        rt: a,
         rn: Reg::SP,
         offset: SImm9 { value: offset },
     }

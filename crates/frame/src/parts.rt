@@ -1,4 +1,5 @@
 // What the pieces ask of a layout.
+// Functions: a trait on the layout, which is of a crate below, would write each signature twice.
 #![tactic(auto, using(crate::proofs::Putting::puts))]
 
 ghost use Rattle.std.specs.Prelude.{◌≡◌, ◌≤◌};
@@ -70,7 +71,7 @@ pub(crate) fn probe_size(layout: &FrameLayout) -> u32
     ensures { result ≡ probe_size_of (plain layout.now.sheet) }
 {
     let size = incoming_args_diff(layout) + layout.clobber_size + stack_size(layout);
-    if layout.sheet.function_calls.is(FunctionCalls::None) {
+    if layout.sheet.function_calls == FunctionCalls::None {
         size
     } else {
         size + layout.setup_area_size

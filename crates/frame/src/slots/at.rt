@@ -64,7 +64,7 @@ pub(crate) fn slot_at(layout: &FrameLayout, k: usize) -> SaveSlot
     ensures { as_slot result ≡ slice_index_or (slots_of (plain layout.now.sheet)) k (one_x 0) }
 {
     let (ints, vecs) = saved_codes(layout);
-    let whole = layout.sheet.call_conv.is(CallConv::PreserveAll);
+    let whole = layout.sheet.call_conv == CallConv::PreserveAll;
     let below = vector_slots(whole, vecs);
     if k < below {
         vector_slot(whole, vecs, k)

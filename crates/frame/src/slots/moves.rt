@@ -23,8 +23,8 @@ pub(crate) fn move_slot(dir: Dir, slot: SaveSlot) -> Inst
     ensures { result ≡ move_of dir (as_slot slot) }
 {
     match slot {
-        SaveSlot::Pair(class, a, b) => move_pair(dir, class, a.number, b.number),
-        SaveSlot::One(class, a) => move_one(dir, class, a.number),
+        SaveSlot::Pair(class, a, b) => move_pair(dir, class, a.reg(), b.reg()),
+        SaveSlot::One(class, a) => move_one(dir, class, a.reg()),
     }
 }
 

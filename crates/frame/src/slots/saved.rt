@@ -1,8 +1,9 @@
 // A saved register by its number.
 ghost use Rattle.std.specs.Prelude.{◌≡◌, ◌%◌, ◌<◌};
+ghost use Rattle.steps.specs.Forms.{reg};
 ghost use Rattle.frame.specs.Codes.{class_of, code_by};
 
-use a64::inst::{Class, PairClass};
+use a64::inst::{Class, PairClass, Reg};
 
 // The number of a register, N of xN or vN.
 #[derive(Clone, Copy)]
@@ -17,6 +18,12 @@ impl Saved {
         ensures { result.number ≡ code % 64 }
     {
         Saved { number: code % 64 }
+    }
+
+    pub(crate) fn reg(self) -> Reg
+        ensures { result ≡ reg self.number }
+    {
+        Reg { enc: self.number }
     }
 
     pub(crate) fn code(self, class: Class) -> u8

@@ -1,5 +1,3 @@
-pub mod Reloads
+pub mod Putting
 pub mod SlotLaws
 pub mod Sizes
-pub mod Seals
-pub mod Grows

@@ -1,5 +1,5 @@
 -- The sizes of an accepted sheet fit 32 bits.
-use Rattle.std.proofs.Common.{◌≡◌, ℕ, ◌+◌, ◌*◌, ◌≤◌, Bool, true, false, cond, ltb, length, refl, ap, ◌∙◌, arith}
+use Rattle.std.proofs.Common.{◌≡◌, ◌+◌, ◌*◌, ◌^◌, ◌<◌, ◌≤◌, Bool, true, false, cond, length, refl, arith}
 use Rattle.sheet.specs.Accepted.{Accepted}
 use Rattle.sheet.specs.Checks.{plain}
 use Rattle.sheet.specs.Plain.{PlainSheet, same}
@@ -7,6 +7,7 @@ use Rattle.sheet.specs.Saved.{saves, pairing, saved_ints_of, saved_vecs_of, clob
 use Rattle.sheet.specs.Walk.{ints}
 use Rattle.sheet.specs.declared.checked.CheckedSheet.{CheckedSheet}
 use Rattle.sheet.specs.declared.types.CallConv.TheVariants.{PreserveAll}
+use Rattle.layout.specs.declared.frame_layout.FrameLayout.{FrameLayout}
 use Rattle.sheet.proofs.AcceptedSheets.{accepted}
 use Rattle.sheet.proofs.Walks.{kept_few}
 
@@ -38,9 +39,8 @@ setup_small h = go (sets_up h)
     go true = omega arith
     go false = omega arith
 
-pub setup_test : (h : PlainSheet) (n : ℕ) → n ≡ setup_size h → ltb 0 n ≡ sets_up h
-setup_test h n e = ap (ltb 0) e ∙ go (sets_up h)
-  where
-    go : (b : Bool) → ltb 0 (cond b 16 0) ≡ b
-    go true = refl
-    go false = refl
+-- What 32 bits have room for.
+pub room : (l : FrameLayout) → (l.sheet.sizes.incoming ≤ l.sheet.sizes.tail) × (l.sheet.sizes.tail + l.sheet.sizes.fixed + l.sheet.sizes.outgoing + l.clobber_size + l.setup_area_size < 2 ^ 32)
+room l =
+    let a = accepted_sheet l.sheet in
+    (a.larger, omega (arith, a.sum, clobber_small (plain l.sheet), setup_small (plain l.sheet), l.clobber_rule, l.setup_rule))

@@ -39,6 +39,16 @@ push_one_of c a = Single Dir.Store c Mode.Pre (reg a) sp (record { value = negsu
 abbrev pub pop_one_of : Class → ℕ → Inst
 pop_one_of c a = Single Dir.Load c Mode.Post (reg a) sp (record { value = pos 16 })
 
+-- A pair pushed or popped.
+abbrev pub move_pair_of : Dir → PairClass → ℕ → ℕ → Inst
+move_pair_of Dir.Store c a b = push_pair_of c a b
+move_pair_of Dir.Load c a b = pop_pair_of c a b
+
+-- One register pushed or popped.
+abbrev pub move_one_of : Dir → Class → ℕ → Inst
+move_one_of Dir.Store c a = push_one_of c a
+move_one_of Dir.Load c a = pop_one_of c a
+
 -- stp fp, lr, [sp]
 abbrev pub store_fp_lr : Inst
 store_fp_lr = Pair Dir.Store PairClass.X PairMode.Offset fp lr sp (record { value = pos 0 })

@@ -1,4 +1,7 @@
 // The pieces of an epilogue, in the order in which they run.
+// Layout and list are two parameters: a struct of both would put into each contract that its layout stays.
+#![tactic(auto, using(crate::proofs::Putting::puts))]
+
 ghost use Rattle.item_list.specs.Items.{code};
 ghost use Rattle.item_list.specs.Lists.{Puts};
 ghost use Rattle.frame.specs.Closes.{combined, frame_popped};
@@ -7,21 +10,22 @@ ghost use Rattle.layout.specs.Slots.{slots_of};
 ghost use Rattle.sheet.specs.Checks.{plain};
 ghost use Rattle.std.specs.Prelude.{◌≡◌};
 
-use crate::forms::pop_pair;
-use crate::parts::{api_key, callee_pop_size, has_setup, is_sp, stack_size};
+use crate::forms::move_pair;
+use crate::parts::{api_key, callee_pop_size, has_setup, stack_size};
 use crate::slots::at::slot_at;
-use crate::slots::moves::pop_of;
-use a64::inst::{AddSub, ApiKey, Inst, PairClass};
+use crate::slots::moves::move_slot;
+use a64::inst::{AddSub, ApiKey, Dir, Inst, Modifier, PairClass, Reg};
 use item_list::ItemList;
 use layout::FrameLayout;
 use steps::adjust::sp_by;
 
-// The lowest slot is popped first.
+// The lowest slot is popped first. By number: an iterator of slots would be one more type.
+#[tactic(auto, using(crate::proofs::Putting::puts, crate::proofs::SlotLaws::slot_count, crate::proofs::SlotLaws::restored_more, std::proofs::lemmas::List::take_all))]
 fn restore_all(layout: &FrameLayout, list: &mut ItemList)
     ensures { Puts list.old list.new (code (restore_slots (slots_of (plain layout.now.sheet)))) }
 {
     for k in 0..layout.clobber_size / 16 {
-        list.inst(pop_of(slot_at(layout, k as usize)));
+        list.inst(move_slot(Dir::Load, slot_at(layout, k as usize)));
     }
 }
 
@@ -38,7 +42,7 @@ fn pop_frame(layout: &FrameLayout, list: &mut ItemList)
 {
     if has_setup(layout) {
         // ldp fp, lr, [sp], #16
-        list.inst(pop_pair(PairClass::X, 29, 30));
+        list.inst(move_pair(Dir::Load, PairClass::X, Reg::FP, Reg::LR));
     }
 }
 
@@ -53,7 +57,7 @@ pub fn epilogue_frame_restore(layout: &FrameLayout, list: &mut ItemList)
 fn is_combined(key: ApiKey, is_hint: bool) -> bool
     ensures { result ≡ combined key.modifier is_hint }
 {
-    is_sp(key.modifier) && !is_hint
+    key.modifier == Modifier::Sp && !is_hint
 }
 
 fn authenticated_ret(key: ApiKey, is_hint: bool, list: &mut ItemList)
@@ -79,6 +83,7 @@ pub fn list_return(layout: &FrameLayout, list: &mut ItemList)
     }
 }
 
+#[tactic(auto, using(crate::proofs::Putting::puts), unfolding(crate::specs::Pieces::epilogue))]
 pub fn list_epilogue(layout: &FrameLayout, list: &mut ItemList)
     ensures { Puts list.old list.new (epilogue_of (plain layout.now.sheet)) }
 {

@@ -1,65 +1,44 @@
 // Instructions that several pieces put.
-ghost use Rattle.frame.specs.Forms.{mov_fp_sp_of, pop_one_of, pop_pair_of, push_one_of, push_pair_of};
+ghost use Rattle.frame.specs.Forms.{mov_fp_sp_of, move_one_of, move_pair_of};
 ghost use Rattle.std.specs.Prelude.{◌≡◌};
 
 use a64::imm::{Imm12, SImm7Scaled, SImm9};
 use a64::inst::{AddSub, Class, Dir, Inst, Mode, PairClass, PairMode, Reg};
 
-// stp ta, tb, [sp, #-16]!
-pub(crate) fn push_pair(class: PairClass, a: u8, b: u8) -> Inst
-    ensures { result ≡ push_pair_of class a b }
+// stp ta, tb, [sp, #-16]! or ldp ta, tb, [sp], #16
+pub(crate) fn move_pair(dir: Dir, class: PairClass, a: Reg, b: Reg) -> Inst
+    ensures { result ≡ move_pair_of dir class a.enc b.enc }
 {
+    let (mode, offset) = match dir {
+        Dir::Store => (PairMode::Pre, -16),
+        Dir::Load => (PairMode::Post, 16),
+    };
     Inst::Pair {
-        dir: Dir::Store,
+        dir,
         class,
-        mode: PairMode::Pre,
-        rt: Reg { enc: a },
-        rt2: Reg { enc: b },
+        mode,
+        rt: a,
+        rt2: b,
         rn: Reg::SP,
-        offset: SImm7Scaled { value: -16 },
+        offset: SImm7Scaled { value: offset },
     }
 }
 
-// ldp ta, tb, [sp], #16
-pub(crate) fn pop_pair(class: PairClass, a: u8, b: u8) -> Inst
-    ensures { result ≡ pop_pair_of class a b }
+// str ta, [sp, #-16]! or ldr ta, [sp], #16
+pub(crate) fn move_one(dir: Dir, class: Class, a: Reg) -> Inst
+    ensures { result ≡ move_one_of dir class a.enc }
 {
-    Inst::Pair {
-        dir: Dir::Load,
-        class,
-        mode: PairMode::Post,
-        rt: Reg { enc: a },
-        rt2: Reg { enc: b },
-        rn: Reg::SP,
-        offset: SImm7Scaled { value: 16 },
-    }
-}
-
-// str ta, [sp, #-16]!
-pub(crate) fn push_one(class: Class, a: u8) -> Inst
-    ensures { result ≡ push_one_of class a }
-{
+    let (mode, offset) = match dir {
+        Dir::Store => (Mode::Pre, -16),
+        Dir::Load => (Mode::Post, 16),
+    };
     Inst::Single {
-        dir: Dir::Store,
+        dir,
         class,
-        mode: Mode::Pre,
-        rt: Reg { enc: a },
+        mode,
+        rt: a,
         rn: Reg::SP,
-        offset: SImm9 { value: -16 },
-    }
-}
-
-// ldr ta, [sp], #16
-pub(crate) fn pop_one(class: Class, a: u8) -> Inst
-    ensures { result ≡ pop_one_of class a }
-{
-    Inst::Single {
-        dir: Dir::Load,
-        class,
-        mode: Mode::Post,
-        rt: Reg { enc: a },
-        rn: Reg::SP,
-        offset: SImm9 { value: 16 },
+        offset: SImm9 { value: offset },
     }
 }
 

@@ -1,4 +1,7 @@
 // The pieces of a prologue, in the order in which they run.
+// Layout and list are two parameters: a struct of both would put into each contract that its layout stays.
+#![tactic(auto, using(crate::proofs::Putting::puts))]
+
 ghost use Rattle.a64.specs.Operands.{uimm12_of};
 ghost use Rattle.std.specs.Prelude.{◌≡◌, pos};
 ghost use Rattle.a64.specs.declared.inst.Inst.TheVariants.{BtiC};
@@ -6,16 +9,17 @@ ghost use Rattle.frame.specs.Forms.{mov_fp_sp_of, push_pair_of, store_fp_lr};
 ghost use Rattle.item_list.specs.Items.{code};
 ghost use Rattle.item_list.specs.Lists.{Puts};
 ghost use Rattle.frame.specs.Opens.{allocates, defines, frame_pushed, grows, moved, needs_pad_of, padded, probes};
-ghost use Rattle.frame.specs.Pieces.{gen_clobber_save_of, gen_prologue_frame_setup_of, prologue as prologue_of, resize_incoming_of, save_slots, sealed, select_api_key_of, tail_reload_of};
+ghost use Rattle.frame.specs.Pieces.{gen_clobber_save_of, gen_prologue_frame_setup_of, noting, prologue as prologue_of, resize_incoming_of, save_slots, sealed, select_api_key_of, tail_reload_of};
 ghost use Rattle.layout.specs.Slots.{slots_of};
+ghost use Rattle.notes.specs.declared.UnwindInst.TheVariants.{Aarch64SetPointerAuth};
 ghost use Rattle.sheet.specs.Checks.{plain};
 
-use crate::forms::{mov_fp_sp, push_pair};
-use crate::parts::{api_key, has_setup, incoming_args_diff, is_sp, probe_size, stack_size, unwind};
+use crate::forms::{mov_fp_sp, move_pair};
+use crate::parts::{api_key, has_setup, incoming_args_diff, probe_size, stack_size, unwind};
 use crate::slots::at::slot_at;
 use crate::slots::moves::save_slot;
 use a64::imm::{SImm7Scaled, UImm12Scaled};
-use a64::inst::{AddSub, ApiKey, Dir, Inst, PairClass, PairMode, Reg};
+use a64::inst::{AddSub, ApiKey, Dir, Inst, Modifier, PairClass, PairMode, Reg};
 use item_list::ItemList;
 use layout::FrameLayout;
 use notes::UnwindInst;
@@ -36,7 +40,18 @@ fn landing_pad(on: bool, list: &mut ItemList)
 fn needs_pad(use_bti: bool, key: ApiKey) -> bool
     ensures { result ≡ needs_pad_of use_bti key.modifier }
 {
-    use_bti && !is_sp(key.modifier)
+    use_bti && key.modifier != Modifier::Sp
+}
+
+// Whether the return address is sealed from here on.
+fn note_seal(layout: &FrameLayout, return_addresses: bool, list: &mut ItemList)
+    ensures { Puts list.old list.new (noting (plain layout.now.sheet) (Aarch64SetPointerAuth return_addresses)) }
+{
+    unwind(
+        layout,
+        UnwindInst::Aarch64SetPointerAuth { return_addresses },
+        list,
+    );
 }
 
 // The landing pad and the seal.
@@ -52,25 +67,13 @@ fn seal(layout: &FrameLayout, list: &mut ItemList)
                 key: key.key,
                 modifier: key.modifier,
             });
-            unwind(
-                layout,
-                UnwindInst::Aarch64SetPointerAuth {
-                    return_addresses: true,
-                },
-                list,
-            );
+            note_seal(layout, true, list);
         }
         None => {
             landing_pad(use_bti, list);
             // The macOS unwinder asks for it.
-            if layout.sheet.call_conv.is(CallConv::AppleAarch64) {
-                unwind(
-                    layout,
-                    UnwindInst::Aarch64SetPointerAuth {
-                        return_addresses: false,
-                    },
-                    list,
-                );
+            if layout.sheet.call_conv == CallConv::AppleAarch64 {
+                note_seal(layout, false, list);
             }
         }
     }
@@ -82,7 +85,7 @@ fn push_frame(layout: &FrameLayout, list: &mut ItemList)
 {
     if has_setup(layout) {
         // stp fp, lr, [sp, #-16]!
-        list.inst(push_pair(PairClass::X, 29, 30));
+        list.inst(move_pair(Dir::Store, PairClass::X, Reg::FP, Reg::LR));
         unwind(
             layout,
             UnwindInst::PushFrameRegs {
@@ -102,17 +105,12 @@ pub fn prologue_frame_setup(layout: &FrameLayout, list: &mut ItemList)
     push_frame(layout, list);
 }
 
-fn reload_offset(amount: u32) -> Option<UImm12Scaled>
-    ensures { result ≡ uimm12_of (pos amount) }
-{
-    UImm12Scaled::maybe_from_i64(amount as i64)
-}
-
 // FP from so far above SP.
+#[tactic(auto, using(crate::proofs::Putting::puts), unfolding(crate::specs::Pieces::tail_reload_of))]
 fn tail_reload(amount: u32, list: &mut ItemList)
     ensures { Puts list.old list.new (code (tail_reload_of amount)) }
 {
-    match reload_offset(amount) {
+    match UImm12Scaled::maybe_from_i64(i64::from(amount)) {
         // ldr fp, [sp, #offset]
         Some(offset) => list.inst(Inst::LdrUImm {
             rt: Reg::FP,
@@ -120,7 +118,7 @@ fn tail_reload(amount: u32, list: &mut ItemList)
             offset,
         }),
         None => {
-            load_constant(Reg::SPILLTMP, amount as u64, list);
+            load_constant(Reg::SPILLTMP, u64::from(amount), list);
             // ldr fp, [sp, x16]
             list.inst(Inst::LdrReg {
                 rt: Reg::FP,
@@ -153,6 +151,7 @@ fn move_frame(layout: &FrameLayout, amount: u32, list: &mut ItemList)
 }
 
 // Room for the arguments of a tail call, where it needs more than there is.
+#[tactic(auto, using(crate::proofs::Putting::puts, std::proofs::lemmas::Bool::Decides::nat_tests))]
 fn resize_incoming(layout: &FrameLayout, list: &mut ItemList)
     ensures { Puts list.old list.new (grows (plain layout.now.sheet)) }
 {
@@ -180,7 +179,8 @@ fn define_frame(layout: &FrameLayout, list: &mut ItemList)
     }
 }
 
-// The highest slot is pushed first.
+// The highest slot is pushed first. By number, which gives the slot and its offset.
+#[tactic(auto, using(crate::proofs::Putting::puts, crate::proofs::SlotLaws::slot_count, crate::proofs::SlotLaws::saved_more, std::proofs::lemmas::List::drop_all))]
 fn save_all(layout: &FrameLayout, list: &mut ItemList)
     ensures { Puts list.old list.new (save_slots (plain layout.now.sheet) (slots_of (plain layout.now.sheet)) 0) }
 {
@@ -190,6 +190,7 @@ fn save_all(layout: &FrameLayout, list: &mut ItemList)
 }
 
 // The fixed storage and the outgoing arguments.
+#[tactic(auto, using(crate::proofs::Putting::puts, std::proofs::lemmas::Bool::Decides::nat_tests))]
 fn allocate(layout: &FrameLayout, list: &mut ItemList)
     ensures { Puts list.old list.new (allocates (plain layout.now.sheet)) }
 {
@@ -217,6 +218,7 @@ fn probe_frame(layout: &FrameLayout, list: &mut ItemList)
     }
 }
 
+#[tactic(auto, using(crate::proofs::Putting::puts), unfolding(crate::specs::Pieces::prologue))]
 pub fn list_prologue(layout: &FrameLayout, list: &mut ItemList)
     ensures { Puts list.old list.new (prologue_of (plain layout.now.sheet)) }
 {

@@ -1,11 +1,14 @@
 // What the pieces ask of a layout.
+// Functions: a trait on the layout, which is of a crate below, would write each signature twice.
+#![tactic(auto, using(crate::proofs::Putting::puts))]
+
 ghost use Rattle.std.specs.Prelude.{◌≡◌, ◌≤◌};
 ghost use Rattle.item_list.specs.Lists.{Puts};
-ghost use Rattle.frame.specs.Pieces.{callee_pop_size_of, incoming_args_diff_of, noting, probe_size_of, select_api_key_of, stack_size_of, with_sp};
+ghost use Rattle.frame.specs.Pieces.{callee_pop_size_of, incoming_args_diff_of, noting, probe_size_of, select_api_key_of, stack_size_of};
 ghost use Rattle.sheet.specs.Checks.{plain};
 ghost use Rattle.sheet.specs.Saved.{sets_up};
 
-use a64::inst::{ApiKey, Modifier};
+use a64::inst::ApiKey;
 use item_list::ItemList;
 use layout::FrameLayout;
 use notes::UnwindInst;
@@ -38,15 +41,6 @@ pub(crate) fn api_key(layout: &FrameLayout) -> Option<ApiKey>
     )
 }
 
-pub(crate) fn is_sp(modifier: Modifier) -> bool
-    ensures { result ≡ with_sp modifier }
-{
-    match modifier {
-        Modifier::Zero => false,
-        Modifier::Sp => true,
-    }
-}
-
 // The room that a tail call needs more than there is.
 pub(crate) fn incoming_args_diff(layout: &FrameLayout) -> u32
     ensures { result ≡ incoming_args_diff_of (plain layout.now.sheet) }
@@ -76,10 +70,10 @@ pub(crate) fn callee_pop_size(layout: &FrameLayout) -> u32
 pub(crate) fn probe_size(layout: &FrameLayout) -> u32
     ensures { result ≡ probe_size_of (plain layout.now.sheet) }
 {
-    let setup = if layout.sheet.function_calls.is(FunctionCalls::None) {
-        0
+    let size = incoming_args_diff(layout) + layout.clobber_size + stack_size(layout);
+    if layout.sheet.function_calls == FunctionCalls::None {
+        size
     } else {
-        layout.setup_area_size
-    };
-    incoming_args_diff(layout) + layout.clobber_size + stack_size(layout) + setup
+        size + layout.setup_area_size
+    }
 }

@@ -1,13 +1,14 @@
 // The save area, 16 bytes a slot.
 pub mod at;
 pub mod moves;
+pub mod saved;
 
-// Two integer registers or one, the low halves of two vectors or of one, or a whole vector.
+use a64::inst::{Class, PairClass};
+use saved::Saved;
+
+// Two integer registers or the low halves of two vectors, or one register of a class.
 #[derive(Clone, Copy)]
 pub enum SaveSlot {
-    PairX(u8, u8),
-    OneX(u8),
-    PairD(u8, u8),
-    OneD(u8),
-    OneQ(u8),
+    Pair(PairClass, Saved, Saved),
+    One(Class, Saved),
 }

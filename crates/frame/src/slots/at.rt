@@ -1,85 +1,74 @@
 // The slots of a layout, from the lowest up.
-ghost use Rattle.std.specs.Prelude.{◌≡◌, ℕ, ◌+◌, ◌*◌, ◌<◌, ◌≤◌, List, map, length, slice_index, slice_index_or};
-ghost use Rattle.frame.specs.Steps.{Coded, as_slot};
-ghost use Rattle.layout.specs.Slots.{Slot, each_q, one_x, slots_of, twos_d, twos_x};
+ghost use Rattle.std.specs.Prelude.{◌≡◌, ◌+◌, ◌*◌, ◌<◌, map, length, slice_index_or};
+ghost use Rattle.frame.specs.Codes.{numbers, twos, vector_slots_of};
+ghost use Rattle.frame.specs.Steps.{as_slot};
+ghost use Rattle.layout.specs.Slots.{one_x, slots_of};
 ghost use Rattle.sheet.specs.Checks.{plain};
 ghost use Rattle.sheet.specs.Saved.{saved_ints_of, saved_vecs_of};
 
 use super::SaveSlot;
+use super::saved::{Saved, class_of};
+use a64::inst::{Class, PairClass};
 use layout::FrameLayout;
 use sheet::types::CallConv;
 
-fn saved_ints(layout: &FrameLayout) -> &[u8]
-    ensures { result.now ≡ saved_ints_of (plain layout.now.sheet) }
+// Slot k of registers that are saved by twos.
+fn two_slot(class: PairClass, codes: &[u8], k: usize) -> SaveSlot
+    requires { 2 * k < length codes.now }
+    ensures { as_slot result ≡ slice_index_or (twos class (numbers codes.now)) k (one_x 0) }
 {
-    let codes = layout.clobbered_callee_saves.as_slice();
-    &codes[0..layout.int_saves]
-}
-
-fn saved_vecs(layout: &FrameLayout) -> &[u8]
-    ensures { result.now ≡ map (λ n. 64 + n) (saved_vecs_of (plain layout.now.sheet)) }
-{
-    let codes = layout.clobbered_callee_saves.as_slice();
-    &codes[layout.int_saves..codes.len()]
-}
-
-fn int_slot(ints: &[u8], k: usize) -> SaveSlot
-    requires { 2 * k < length ints.now }
-    ensures slot { as_slot result ≡ slice_index_or (twos_x ints.now) k (one_x 0) }
-    ensures coded { Coded result }
-{
-    let i = 2 * k;
-    if i + 1 < ints.len() {
-        SaveSlot::PairX(ints[i], ints[i + 1])
-    } else {
-        SaveSlot::OneX(ints[i])
+    let first = Saved::of(codes[2 * k]);
+    match codes.get(2 * k + 1) {
+        Some(second) => SaveSlot::Pair(class, first, Saved::of(*second)),
+        None => SaveSlot::One(class_of(class), first),
     }
 }
 
-// The number of the vector with this code.
-fn vector_at(vecs: &[u8], i: usize) -> u8
-    requires low { (j : ℕ) → j < length vecs.now → 64 ≤ slice_index vecs.now j }
-    requires within { i < length vecs.now }
-    ensures { (64 + result ≡ slice_index vecs.now i) × (64 + result < 256) }
+// The codes of the saved integers, and of the saved vectors.
+fn saved_codes(layout: &FrameLayout) -> (&[u8], &[u8])
+    ensures ints { result.0.now ≡ saved_ints_of (plain layout.now.sheet) }
+    ensures vecs { result.1.now ≡ map (λ n. 64 + n) (saved_vecs_of (plain layout.now.sheet)) }
 {
-    vecs[i] - 64
+    layout
+        .clobbered_callee_saves
+        .as_slice()
+        .split_at(layout.int_saves)
 }
 
-fn low_slot(vecs: &[u8], k: usize) -> SaveSlot
-    requires low { (j : ℕ) → j < length vecs.now → 64 ≤ slice_index vecs.now j }
-    requires within { 2 * k < length vecs.now }
-    ensures slot { (rs : List ℕ) → vecs.now ≡ map (λ n. 64 + n) rs → as_slot result ≡ slice_index_or (twos_d rs) k (one_x 0) }
-    ensures coded { Coded result }
+// How many slots the vectors take.
+fn vector_slots(whole: bool, codes: &[u8]) -> usize
+    ensures { result ≡ length (vector_slots_of whole (numbers codes.now)) }
 {
-    let i = 2 * k;
-    if i + 1 < vecs.len() {
-        SaveSlot::PairD(vector_at(vecs, i), vector_at(vecs, i + 1))
+    if whole {
+        codes.len()
     } else {
-        SaveSlot::OneD(vector_at(vecs, i))
+        codes.len().div_ceil(2)
+    }
+}
+
+// Slot k of the vectors.
+fn vector_slot(whole: bool, codes: &[u8], k: usize) -> SaveSlot
+    requires { k < length (vector_slots_of whole (numbers codes.now)) }
+    ensures { as_slot result ≡ slice_index_or (vector_slots_of whole (numbers codes.now)) k (one_x 0) }
+{
+    if whole {
+        SaveSlot::One(Class::Q, Saved::of(codes[k]))
+    } else {
+        two_slot(PairClass::D, codes, k)
     }
 }
 
 // Slot k of the save area.
 pub(crate) fn slot_at(layout: &FrameLayout, k: usize) -> SaveSlot
     requires { k < length (slots_of (plain layout.now.sheet)) }
-    ensures slot { as_slot result ≡ slice_index_or (slots_of (plain layout.now.sheet)) k (one_x 0) }
-    ensures coded { Coded result }
+    ensures { as_slot result ≡ slice_index_or (slots_of (plain layout.now.sheet)) k (one_x 0) }
 {
-    let ints = saved_ints(layout);
-    let vecs = saved_vecs(layout);
-    if layout.sheet.call_conv.is(CallConv::PreserveAll) {
-        let below = vecs.len();
-        if k < below {
-            SaveSlot::OneQ(vector_at(vecs, k))
-        } else {
-            int_slot(ints, k - below)
-        }
+    let (ints, vecs) = saved_codes(layout);
+    let whole = layout.sheet.call_conv == CallConv::PreserveAll;
+    let below = vector_slots(whole, vecs);
+    if k < below {
+        vector_slot(whole, vecs, k)
     } else {
-        let below = vecs.len() / 2 + vecs.len() % 2;
-        if k < below {
-            low_slot(vecs, k)
-        } else {
-            int_slot(ints, k - below)
-        }
+        two_slot(PairClass::X, ints, k - below)
     }
 }

@@ -1,5 +1,6 @@
 // Listing functions, and finding them by slot and by number.
 ghost use Rattle.std.specs.Prelude.{◌≡◌, ◌+◌, ◌-◌, ◌<◌, ◌≤◌, [], ◌∷◌, ◌++◌, length, take, IfOk, if◌then◌else◌, vec_len, vec_capacity, nat_lt};
+ghost use Rattle.fixed_list.specs.Items.{push_answer, pushed};
 ghost use Rattle.order.specs.Placed.{InOrder, below};
 ghost use Rattle.shelf.specs.Index.{cut_slot, insert_key_of, key_order, look_in};
 ghost use Rattle.shelf.specs.Limits.{function_count};
@@ -82,14 +83,14 @@ impl Shelf {
         slot_in(self.keys.as_slice(), number)
     }
 
-    // Lists a function behind the others, if fewer than FUNCTION_COUNT are listed.
-    pub fn push(&mut self, entry: Entry) -> bool
-        ensures answer { result ≡ nat_lt (length (listed self.old)) function_count }
-        ensures list { listed self.new ≡ (if result then listed self.old ++ entry ∷ [] else listed self.old) }
+    // Lists a function behind the others. Where FUNCTION_COUNT are listed it comes back, and nothing changes.
+    pub fn push(&mut self, entry: Entry) -> Result<(), Entry>
+        ensures answer { result ≡ push_answer function_count (listed self.old) entry }
+        ensures list { listed self.new ≡ pushed function_count (listed self.old) entry }
     {
         let n = self.entries.len();
         if n >= FUNCTION_COUNT {
-            return false;
+            return Err(entry);
         }
         self.entries.push_reserved(entry);
         insert_key(
@@ -99,7 +100,7 @@ impl Shelf {
                 slot: n,
             },
         );
-        true
+        Ok(())
     }
 
     // Takes the last function off the list, if there is one.

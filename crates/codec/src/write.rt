@@ -1,4 +1,4 @@
-// The writer: one small writer for each form, field by field from bit 31 down.
+// The writer: one small writer for each form, field by field from bit 31 down. Its parameters are the fields of the form's case.
 ghost use Rattle.a64.specs.Words.{Formed, Numbered, after, key_bit as key_bit_of, load_bit as load_bit_of, sp_bit, word};
 ghost use Rattle.codec.specs.Writes.{Writes};
 ghost use Rattle.std.specs.Prelude.{◌≡◌, ◌<◌, ◌^◌, [], ◌∷◌, MatchOption};
@@ -12,19 +12,13 @@ use decoder::clash::{pair_clash, single_clash};
 fn load_bit(dir: Dir) -> u32
     ensures { result ≡ load_bit_of dir }
 {
-    match dir {
-        Dir::Store => 0,
-        Dir::Load => 1,
-    }
+    dir as u32
 }
 
 fn key_bit(key: Key) -> u32
     ensures { result ≡ key_bit_of key }
 {
-    match key {
-        Key::A => 0,
-        Key::B => 1,
-    }
+    key as u32
 }
 
 // A form of three registers: its head, three bits, and the six bits before rn.
@@ -200,12 +194,8 @@ fn pauth(head: u32, key: Key, modifier: Modifier) -> u32
     requires { head < 2 ^ 25 }
     ensures { result ≡ after head ((1, key_bit_of key) ∷ (1, sp_bit modifier) ∷ (5, 0b11111) ∷ []) }
 {
-    let sp = match modifier {
-        Modifier::Zero => 0,
-        Modifier::Sp => 1,
-    };
     let w = join(head, 1, key_bit(key));
-    let w = join(w, 1, sp);
+    let w = join(w, 1, modifier as u32);
     join(w, 5, 0b11111)
 }
 

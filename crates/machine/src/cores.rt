@@ -74,10 +74,7 @@ impl Core for SealingCore {
 fn key_number(key: Key) -> u64
     ensures { result ≡ key_number_of key }
 {
-    match key {
-        Key::A => 0,
-        Key::B => 1,
-    }
+    key as u64
 }
 
 // The low 48 bits, and above them 15 bits of the modifier, the address and the key.

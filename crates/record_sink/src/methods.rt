@@ -1,37 +1,41 @@
-// Making a record sink, and its calls: prices 1 and 1.
+// Making a record sink, and its calls.
 ghost use Rattle.std.specs.Prelude.{◌≡◌, ℕ, ◌+◌, ◌-◌, ◌*◌, ◌<◌, ◌≤◌, IfOk};
 ghost use Rattle.sink.specs.Held.{fresh};
 ghost use Rattle.record_sink.specs.Records.{record_held};
 
-use crate::RecordSink;
+use crate::Records;
 use a64::inst::Inst;
 use codec::encode;
 use notes::{Note, UnwindInst};
 use refusal::Refusal;
-use sink::price::Units;
+use sink::price::{Fixed, Price, Units};
 use sink::sink::{Counts, MOST, Sink, first_stray, no_room, not_held};
 use std::alloc::{AllocError, Global};
 
-impl RecordSink {
+impl<const INST: u32, const NOTE: u32> Records<INST, NOTE> {
     // An empty sink of this length, or want of memory.
-    pub fn new(heap: Global, len: usize) -> Result<RecordSink, AllocError>
+    pub fn new(heap: Global, len: usize) -> Result<Records<INST, NOTE>, AllocError>
         ensures { IfOk result (λ s. record_held s ≡ fresh len) }
     {
-        let room = if len <= MOST { len } else { MOST };
+        let room = len.min(MOST);
         let insts = Vec::with_capacity(heap, room)?;
         let notes = Vec::with_capacity(heap, room)?;
-        Ok(RecordSink { insts, notes, room })
+        Ok(Records { insts, notes, room })
     }
 }
 
-impl Sink for RecordSink {
-    type InstPrice = Units<1>;
+impl<const INST: u32, const NOTE: u32> Sink for Records<INST, NOTE>
+where
+    Units<INST>: Fixed,
+    Units<NOTE>: Fixed,
+{
+    type InstPrice = Units<INST>;
 
-    type NotePrice = Units<1>;
+    type NotePrice = Units<NOTE>;
 
-    const INST_PRICE: Units<1> = Units {};
+    const INST_PRICE: Units<INST> = Units::<INST>::VALUE;
 
-    const NOTE_PRICE: Units<1> = Units {};
+    const NOTE_PRICE: Units<NOTE> = Units::<NOTE>::VALUE;
 
     ghost held = { record_held };
 
@@ -47,50 +51,33 @@ impl Sink for RecordSink {
         self.notes.len()
     }
 
-    fn counts(&self) -> Counts {
-        Counts {
-            insts: self.insts.len(),
-            notes: self.notes.len(),
-            room: self.room,
-        }
-    }
-
     fn inst_at(&self, i: usize) -> Result<Inst, Refusal> {
-        if i < self.insts.len() {
-            Ok(self.insts[i])
-        } else {
-            Err(not_held(i))
-        }
+        self.insts.get(i).copied().ok_or(not_held(i))
     }
 
     fn note_at(&self, i: usize) -> Result<Note, Refusal> {
-        if i < self.notes.len() {
-            Ok(self.notes[i])
-        } else {
-            Err(not_held(i))
-        }
+        self.notes.get(i).copied().ok_or(not_held(i))
     }
 
     fn put_inst(&mut self, x: Inst) -> Result<(), Refusal> {
-        match encode(x) {
-            Ok(_) => {}
-            Err(e) => return Err(e),
-        }
-        if self.room < 1 {
+        encode(x)?;
+        let price = Self::INST_PRICE.value() as usize;
+        if self.room < price {
             return Err(no_room(self.room));
         }
         self.insts.push_reserved(x);
-        self.room -= 1;
+        self.room -= price;
         Ok(())
     }
 
     fn put_note(&mut self, x: UnwindInst) -> Result<(), Refusal> {
-        if self.room < 1 {
+        let price = Self::NOTE_PRICE.value() as usize;
+        if self.room < price {
             return Err(no_room(self.room));
         }
         let place = self.insts.len() as u32;
         self.notes.push_reserved(Note { place, inst: x });
-        self.room -= 1;
+        self.room -= price;
         Ok(())
     }
 
@@ -103,13 +90,14 @@ impl Sink for RecordSink {
         if n > notes {
             return Err(not_held(n));
         }
-        match first_stray(&self.notes[0..n], i) {
-            Some(k) => return Err(not_held(k)),
-            None => {}
+        if let Some(k) = first_stray(&self.notes[..n], i) {
+            return Err(not_held(k));
         }
         self.insts.truncate(i);
         self.notes.truncate(n);
-        self.room = self.room + (insts - i) + (notes - n);
+        let inst_price = Self::INST_PRICE.value() as usize;
+        let note_price = Self::NOTE_PRICE.value() as usize;
+        self.room += inst_price * (insts - i) + note_price * (notes - n);
         Ok(())
     }
 }

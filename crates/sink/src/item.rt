@@ -6,7 +6,7 @@ ghost use Rattle.sink.specs.Items.{AllRead, PutItems, PutPiece, cost_of, with_it
 
 use crate::price::Price;
 use crate::readable::Readable;
-use crate::sink::{Sink, no_room};
+use crate::sink::{Priced, Sink, no_room};
 use a64::inst::Inst;
 use codec::encode;
 use notes::UnwindInst;
@@ -52,8 +52,8 @@ fn affordable(items: &[Item], inst: u32, note: u32, room: usize) -> bool
 // Puts the items one by one, where none is refused.
 fn put_all<S: Sink>(sink: &mut S, items: &[Item]) -> Result<(), Refusal>
     requires read { ∥ AllRead items.now ∥₁ }
-    requires bound { cost_of (record { inst = S.InstPrice.Price.units; note = S.NotePrice.Price.units }) items.now ≤ (S.held sink.old).room }
-    ensures { MatchResult result (λ _. S.held sink.new ≡ with_items (record { inst = S.InstPrice.Price.units; note = S.NotePrice.Price.units }) (S.held sink.old) items.now) (λ _. ⊥) }
+    requires bound { cost_of ⟦<S as Priced>⟧.prices items.now ≤ (S.held sink.old).room }
+    ensures { MatchResult result (λ _. S.held sink.new ≡ with_items ⟦<S as Priced>⟧.prices (S.held sink.old) items.now) (λ _. ⊥) }
 {
     for item in items {
         match item {
@@ -66,7 +66,7 @@ fn put_all<S: Sink>(sink: &mut S, items: &[Item]) -> Result<(), Refusal>
 
 // Puts readable items in order, or none of them: the whole price is tried against the room first.
 pub fn put_readable<S: Sink>(sink: &mut S, list: Readable<'_>) -> Result<(), Refusal>
-    ensures { PutPiece (record { inst = S.InstPrice.Price.units; note = S.NotePrice.Price.units }) (S.held sink.old) list.entry.items.now (S.held sink.new) result }
+    ensures { PutPiece ⟦<S as Priced>⟧.prices (S.held sink.old) list.entry.items.now (S.held sink.new) result }
 {
     let room = sink.room();
     let items = list.items;
@@ -79,7 +79,7 @@ pub fn put_readable<S: Sink>(sink: &mut S, list: Readable<'_>) -> Result<(), Ref
 
 // Puts the items in order, or none of them: each instruction is tried first, then the whole price against the room.
 pub fn put_items<S: Sink>(sink: &mut S, items: &[Item]) -> Result<(), Refusal>
-    ensures { PutItems (record { inst = S.InstPrice.Price.units; note = S.NotePrice.Price.units }) (S.held sink.old) items.now (S.held sink.new) result }
+    ensures { PutItems ⟦<S as Priced>⟧.prices (S.held sink.old) items.now (S.held sink.new) result }
 {
     readable(items)?;
     put_readable(sink, Readable { items })

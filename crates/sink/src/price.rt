@@ -25,3 +25,20 @@ impl<const N: u32> Price for Units<N> {
         N
     }
 }
+
+// A price that can be named by its type alone.
+pub trait Fixed: Price + Sized {
+    const VALUE: Self;
+}
+
+impl Fixed for Units<1> {
+    const VALUE: Units<1> = Units {};
+}
+
+impl Fixed for Units<5> {
+    const VALUE: Units<5> = Units {};
+}
+
+impl Fixed for Units<8> {
+    const VALUE: Units<8> = Units {};
+}

@@ -98,5 +98,14 @@ pub trait Sink {
 
     // Keeps the first i instructions and the first n notes, and gives back the price of the rest.
     fn rewind(&mut self, i: usize, n: usize) -> Result<(), Refusal>
-        ensures { Rewind (record { inst = Self.InstPrice.Price.units; note = Self.NotePrice.Price.units }) (held self.old) i n (held self.new) result };
+        ensures { Rewind ⟦<Self as Priced>⟧.prices (held self.old) i n (held self.new) result };
+}
+
+// The prices of a sink as one record, which contracts name.
+pub trait Priced {
+    ghost prices: { Prices };
+}
+
+impl<S: Sink> Priced for S {
+    ghost prices = { record { inst = S.InstPrice.Price.units; note = S.NotePrice.Price.units } };
 }

@@ -1,22 +1,22 @@
 // Plays scripts on sinks: for each script its number, a space, and 1 if every answer is the expected one, else 0.
 #![tactic(auto)]
 
-mod dear;
 mod form;
 mod play;
 
-use dear::DearSink;
-use form::{size, word};
+use form::{number, word};
 use play::play;
-use record_sink::RecordSink;
+use record_sink::{RecordSink, Records};
 use std::alloc::{AllocError, Global};
 use std::io;
 use std::io::{BufRead, BufReader};
 use word_sink::WordSink;
 
+// A third sink, with prices 8 and 5, to show that generic code leans on no sink's prices.
+type DearSink = Records<8, 5>;
+
 #[derive(Drop)]
 enum Any {
-    Nothing,
     Record(RecordSink),
     Word(WordSink),
     Dear(DearSink),
@@ -24,29 +24,29 @@ enum Any {
 
 #[derive(Drop)]
 struct Script {
-    sink: Any,
+    sink: Option<Any>,
     answer: String,
     right: bool,
     number: u32,
 }
 
 // The sink that a script's first line asks for.
-fn made(heap: Global, line: &str) -> Result<Any, AllocError> {
-    let len = size(line, 4);
-    match word(line, 1) {
-        "record" => Ok(Any::Record(RecordSink::new(heap, len)?)),
-        "word" => Ok(Any::Word(WordSink::new(heap, len)?)),
-        "other" => Ok(Any::Dear(DearSink::new(heap, len)?)),
-        _ => Ok(Any::Nothing),
-    }
+fn made(heap: Global, line: &str) -> Result<Option<Any>, AllocError> {
+    let len = number(line, 4);
+    Ok(match word(line, 1) {
+        "record" => Some(Any::Record(RecordSink::new(heap, len)?)),
+        "word" => Some(Any::Word(WordSink::new(heap, len)?)),
+        "other" => Some(Any::Dear(DearSink::new(heap, len)?)),
+        _ => None,
+    })
 }
 
-fn answer(heap: Global, sink: &mut Any, line: &str) -> Result<String, AllocError> {
+fn answer(heap: Global, sink: &mut Option<Any>, line: &str) -> Result<String, AllocError> {
     match sink {
-        Any::Nothing => String::from_str(heap, "= no sink"),
-        Any::Record(s) => play(heap, s, line),
-        Any::Word(s) => play(heap, s, line),
-        Any::Dear(s) => play(heap, s, line),
+        None => String::from_str(heap, "= no sink"),
+        Some(Any::Record(s)) => play(heap, s, line),
+        Some(Any::Word(s)) => play(heap, s, line),
+        Some(Any::Dear(s)) => play(heap, s, line),
     }
 }
 
@@ -58,15 +58,13 @@ fn line(rt: &HostRuntime, script: &mut Script, text: &str) -> io::Result<()> {
             Ok(())
         }
         "=" => {
-            if script.answer.as_str() != text {
-                script.right = false;
-            }
+            script.right &= script.answer.as_str() == text;
             Ok(())
         }
         "end" => {
             script.number = script.number.saturating_add(1);
             let number = script.number;
-            let verdict = if script.right { 1 } else { 0 };
+            let verdict = u8::from(script.right);
             println!(rt; "{number} {verdict}")
         }
         _ => {
@@ -79,7 +77,7 @@ fn line(rt: &HostRuntime, script: &mut Script, text: &str) -> io::Result<()> {
 fn main(rt: HostRuntime) -> io::Result<()> {
     let heap = rt.alloc();
     let mut script = Script {
-        sink: Any::Nothing,
+        sink: None,
         answer: String::new(heap),
         right: true,
         number: 0,

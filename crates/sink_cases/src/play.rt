@@ -1,10 +1,10 @@
 // A line of a script played on a sink, with the answer in words.
-use crate::form::{inst, size, word, word32};
+use crate::form::{inst, number, word};
 use a64::inst::Inst;
 use codec::encode;
 use notes::{Note, inst_from};
 use refusal::Refusal;
-use sink::sink::Sink;
+use sink::sink::{Counts, Sink};
 use std::alloc::{AllocError, Global};
 
 fn refused(heap: Global, e: Refusal) -> Result<String, AllocError> {
@@ -22,26 +22,19 @@ fn done(heap: Global, r: Result<(), Refusal>) -> Result<String, AllocError> {
 }
 
 fn told_inst(heap: Global, r: Result<Inst, Refusal>) -> Result<String, AllocError> {
-    match r {
-        Ok(i) => match encode(i) {
-            Ok(w) => format!(in heap; "= ins {w:08X}"),
-            Err(e) => refused(heap, e),
-        },
+    match r.and_then(encode) {
+        Ok(w) => format!(in heap; "= ins {w:08X}"),
         Err(e) => refused(heap, e),
     }
 }
 
 fn told_note(heap: Global, r: Result<Note, Refusal>) -> Result<String, AllocError> {
-    match r {
-        Ok(n) => match n.words() {
-            Some(words) => {
-                let first = words[0];
-                let a = words[1];
-                let b = words[2];
-                format!(in heap; "= note {first} {a} {b}")
-            }
-            None => String::from_str(heap, "= note"),
-        },
+    match r.map(<[u32; 3]>::try_from) {
+        Ok(Ok(words)) => {
+            let [first, a, b] = words;
+            format!(in heap; "= note {first} {a} {b}")
+        }
+        Ok(Err(_)) => String::from_str(heap, "= note"),
         Err(e) => refused(heap, e),
     }
 }
@@ -52,16 +45,13 @@ pub(crate) fn play<S: Sink>(heap: Global, sink: &mut S, line: &str) -> Result<St
         "put" => done(heap, sink.put_inst(inst(line))),
         "putnote" => done(
             heap,
-            sink.put_note(inst_from(word32(line, 1), word32(line, 2), word32(line, 3))),
+            sink.put_note(inst_from(number(line, 1), number(line, 2), number(line, 3))),
         ),
-        "read" => told_inst(heap, sink.inst_at(size(line, 1))),
-        "note" => told_note(heap, sink.note_at(size(line, 1))),
-        "rewind" => done(heap, sink.rewind(size(line, 1), size(line, 2))),
+        "read" => told_inst(heap, sink.inst_at(number(line, 1))),
+        "note" => told_note(heap, sink.note_at(number(line, 1))),
+        "rewind" => done(heap, sink.rewind(number(line, 1), number(line, 2))),
         _ => {
-            let c = sink.counts();
-            let insts = c.insts;
-            let notes = c.notes;
-            let room = c.room;
+            let Counts { insts, notes, room } = sink.counts();
             format!(in heap; "= counts {insts} {notes} {room}")
         }
     }

@@ -1,5 +1,5 @@
 -- How a row of cells holds instructions from the front and notes of three words from the back.
-use Rattle.std.specs.Prelude.{◌≡◌, ℕ, ◌+◌, ◌-◌, ◌*◌, List, map, take, vec_items, Result, MatchResult, slice_index, slice_set}
+use Rattle.std.specs.Prelude.{◌≡◌, ℕ, ◌+◌, ◌-◌, ◌*◌, List, map, take, vec_items, vec_len, Result, MatchResult, slice_index, slice_set}
 use Rattle.a64.specs.Words.{Reads}
 use Rattle.a64.specs.declared.inst.Inst.{Inst}
 use Rattle.decoder.specs.Reading.{reading}
@@ -33,7 +33,7 @@ cells_held top ws i n = record { insts = insts_of ws i; notes = notes_of top ws 
 
 -- What a word sink means.
 abbrev pub word_held : WordSink → Held
-word_held s = cells_held s.top (vec_items s.words) s.insts s.notes
+word_held s = cells_held (vec_len s.words) (vec_items s.words) s.insts s.notes
 
 -- The cells of a word sink.
 abbrev pub cells_of : WordSink → List ℕ
@@ -52,4 +52,4 @@ InstCells old x new r =
 -- Putting a note writes its words before the others; a refusal writes nothing.
 abbrev pub NoteCells : WordSink → UnwindInst → WordSink → Result Unit Refusal → Type 0
 NoteCells old x new r =
-    MatchResult r (λ _. cells_of new ≡ noted old.top (cells_of old) old.notes (note_at (word_held old) x)) (λ _. cells_of new ≡ cells_of old)
+    MatchResult r (λ _. cells_of new ≡ noted (vec_len old.words) (cells_of old) old.notes (note_at (word_held old) x)) (λ _. cells_of new ≡ cells_of old)

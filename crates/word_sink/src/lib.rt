@@ -9,10 +9,8 @@ pub mod methods;
 #[derive(Drop)]
 pub struct WordSink {
     words: Vec<u32>,
-    top: usize,
     insts: usize,
     notes: usize,
-    ghost small: { top ≤ most },
-    ghost within: { top ≤ vec_len words },
-    ghost fit: { insts + 3 * notes ≤ top },
+    ghost small: { vec_len words ≤ most },
+    ghost fit: { insts + 3 * notes ≤ vec_len words },
 }

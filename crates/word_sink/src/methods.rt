@@ -1,16 +1,16 @@
 // Making a word sink, and its calls: prices 1 and 3.
-ghost use Rattle.std.specs.Prelude.{◌≡◌, ℕ, ◌+◌, ◌-◌, ◌*◌, ◌<◌, ◌≤◌, map, take, IfOk};
+ghost use Rattle.std.specs.Prelude.{◌≡◌, ℕ, ◌+◌, ◌-◌, ◌*◌, ◌<◌, ◌≤◌, map, take, IfOk, vec_len};
 ghost use Rattle.decoder.specs.Reading.{reading};
-ghost use Rattle.word_sink.specs.Cells.{InstCells, NoteCells, cells_of, notes_of, word_held};
+ghost use Rattle.word_sink.specs.Cells.{InstCells, NoteCells, cells_of, note_base, notes_of, word_held};
 ghost use Rattle.sink.specs.Held.{PutInst, PutNote, Rewind, fresh, stray};
 
 use crate::WordSink;
 use a64::inst::Inst;
 use codec::{decode, encode};
-use notes::{Note, UnwindInst, note_from};
+use notes::{Note, Parts, UnwindInst, note_from};
 use refusal::Refusal;
 use sink::price::Units;
-use sink::sink::{Counts, MOST, Sink, no_room, not_held};
+use sink::sink::{MOST, Sink, no_room, not_held};
 use std::alloc::{AllocError, Global};
 
 impl WordSink {
@@ -18,11 +18,9 @@ impl WordSink {
     pub fn new(heap: Global, len: usize) -> Result<WordSink, AllocError>
         ensures { IfOk result (λ s. word_held s ≡ fresh len) }
     {
-        let top = if len <= MOST { len } else { MOST };
-        let words = vec![in heap; 0; top]?;
+        let words = vec![in heap; 0; len.min(MOST)]?;
         Ok(WordSink {
             words,
-            top,
             insts: 0,
             notes: 0,
         })
@@ -33,16 +31,24 @@ impl WordSink {
         ensures words { result.now ≡ take self.now.insts (cells_of self.now) }
         ensures readings { map reading result.now ≡ (word_held self.now).insts }
     {
-        &self.words[0..self.insts]
+        &self.words[..self.insts]
+    }
+
+    // The first cell of note k.
+    fn base(&self, k: usize) -> usize
+        requires { 3 * (k + 1) ≤ vec_len self.now.words }
+        ensures { result ≡ note_base (vec_len self.now.words) k }
+    {
+        self.words.len() - 3 * (k + 1)
     }
 
     // The index of the first of the first n notes whose place is above i.
     fn first_stray(&self, i: usize, n: usize) -> Option<usize>
         requires { n ≤ self.now.notes }
-        ensures { result ≡ stray i 0 (notes_of self.now.top self.now.words.items n) }
+        ensures { result ≡ stray i 0 (notes_of (vec_len self.now.words) self.now.words.items n) }
     {
         for k in 0..n {
-            let first = self.words[self.top - 3 * (k + 1)];
+            let first = self.words[self.base(k)];
             if (first / 256) as usize > i {
                 return Some(k);
             }
@@ -63,7 +69,7 @@ impl Sink for WordSink {
     ghost held = { word_held };
 
     fn room(&self) -> usize {
-        self.top - (self.insts + 3 * self.notes)
+        self.words.len() - (self.insts + 3 * self.notes)
     }
 
     fn inst_count(&self) -> usize {
@@ -74,25 +80,16 @@ impl Sink for WordSink {
         self.notes
     }
 
-    fn counts(&self) -> Counts {
-        Counts {
-            insts: self.insts,
-            notes: self.notes,
-            room: self.top - (self.insts + 3 * self.notes),
-        }
-    }
-
     fn inst_at(&self, i: usize) -> Result<Inst, Refusal> {
-        if i < self.insts {
-            Ok(decode(self.words[i]))
-        } else {
-            Err(not_held(i))
-        }
+        self.code()
+            .get(i)
+            .map(|word| decode(*word))
+            .ok_or(not_held(i))
     }
 
     fn note_at(&self, i: usize) -> Result<Note, Refusal> {
         if i < self.notes {
-            let base = self.top - 3 * (i + 1);
+            let base = self.base(i);
             let first = self.words[base];
             let a = self.words[base + 1];
             let b = self.words[base + 2];
@@ -106,11 +103,8 @@ impl Sink for WordSink {
         ensures put { PutInst 1 (word_held self.old) x (word_held self.new) result }
         ensures cells { InstCells self.old x self.new result }
     {
-        let word = match encode(x) {
-            Ok(w) => w,
-            Err(e) => return Err(e),
-        };
-        let room = self.top - (self.insts + 3 * self.notes);
+        let word = encode(x)?;
+        let room = self.room();
         if room < 1 {
             return Err(no_room(room));
         }
@@ -123,13 +117,13 @@ impl Sink for WordSink {
         ensures put { PutNote 3 (word_held self.old) x (word_held self.new) result }
         ensures cells { NoteCells self.old x self.new result }
     {
-        let room = self.top - (self.insts + 3 * self.notes);
+        let room = self.room();
         if room < 3 {
             return Err(no_room(room));
         }
-        let base = self.top - 3 * (self.notes + 1);
+        let base = self.base(self.notes);
         let place = self.insts as u32;
-        let parts = x.parts();
+        let parts = Parts::from(x);
         self.words[base] = parts.kind + 256 * place;
         self.words[base + 1] = parts.a;
         self.words[base + 2] = parts.b;
@@ -147,9 +141,8 @@ impl Sink for WordSink {
         if n > self.notes {
             return Err(not_held(n));
         }
-        match self.first_stray(i, n) {
-            Some(k) => return Err(not_held(k)),
-            None => {}
+        if let Some(k) = self.first_stray(i, n) {
+            return Err(not_held(k));
         }
         self.insts = i;
         self.notes = n;

@@ -4,6 +4,7 @@ ghost use Rattle.codes.specs.Marked.{Coded, holds, marked};
 
 use crate::bits::{has_bit, with_bit};
 
+// Not one mask of 128 bits: codes between and above the two are no registers', so that form would ask for the same tests.
 #[derive(Clone, Copy)]
 pub struct Marks {
     ints: u32,

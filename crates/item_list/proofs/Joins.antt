@@ -1,7 +1,7 @@
 -- Putting items behind a list, piece by piece.
-use Rattle.std.proofs.Common.{◌≡◌, ℕ, ◌≤◌, List, [], ◌∷◌, ◌++◌, length, take, sym, refl, ap, ◌∙◌, append_assoc, append-nil, arith}
+use Rattle.std.proofs.Common.{◌≡◌, ℕ, ◌≤◌, List, [], ◌∷◌, ◌++◌, length, take, sym, ap, ◌∙◌, append_assoc, append-nil, arith}
 use Rattle.std.proofs.lemmas.Grind.{common_steps}
-use Rattle.std.proofs.lemmas.List.{take_all}
+use Rattle.std.proofs.lemmas.List.{map-append, take_all}
 use Rattle.fixed_list.proofs.Short.{items_short}
 use Rattle.a64.specs.declared.inst.Inst.{Inst}
 use Rattle.item_list.specs.Items.{code}
@@ -35,8 +35,7 @@ unfolding joined
 whole x y a e p le = p ∙ ap (λ (r : List Item). joined r a) e ∙ take_all cell_count a le
 
 pub code_append : (a b : List Inst) → code (a ++ b) ≡ code a ++ code b
-code_append [] b = refl
-code_append (i ∷ a) b = ap (λ r. Item.Inst i ∷ r) (code_append a b)
+code_append a b = map-append Item.Inst a b
 
 -- The same for instructions.
 pub then_code : (x y z : ItemList) (a b : List Inst) → Puts x y (code a) → Puts y z (code b) → Puts x z (code (a ++ b))

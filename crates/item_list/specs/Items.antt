@@ -1,9 +1,8 @@
 -- Instructions as items.
-use Rattle.std.specs.Prelude.{List, [], ◌∷◌}
+use Rattle.std.specs.Prelude.{List, map}
 use Rattle.a64.specs.declared.inst.Inst.{Inst}
 use Rattle.sink.specs.declared.item.Item.{Item}
 
 -- Instructions without notes.
 abbrev pub code : List Inst → List Item
-code [] = []
-code (i ∷ is) = Item.Inst i ∷ code is
+code = map Item.Inst

@@ -1,4 +1,3 @@
 pub mod Forms
 pub mod Adjust
 pub mod Probes
-pub mod Small

@@ -1,8 +1,7 @@
 // Constants in registers, and SP moved by an amount.
-ghost use Rattle.std.specs.Prelude.{◌≡◌, ◌<◌, unsigned_abs};
+ghost use Rattle.std.specs.Prelude.{◌≡◌, ◌<◌};
 ghost use Rattle.item_list.specs.Items.{code};
 ghost use Rattle.item_list.specs.Lists.{Puts};
-ghost use Rattle.steps.specs.Small.{move_wide, op_of};
 ghost use Rattle.steps.specs.Adjust.{gen_sp_reg_adjust_of, load_constant_of, part, sp_by_of};
 
 use a64::imm::{Imm12, MoveWideConst};
@@ -17,34 +16,28 @@ fn part_of(value: u64, shift: u8) -> u16
     ((value >> (16 * shift)) % 65536) as u16
 }
 
-// movz, movk rd, #bits, lsl #16*shift
-fn move_wide(first: bool, rd: Reg, bits: u16, shift: u8) -> Inst
-    ensures { result ≡ move_wide first rd bits shift }
-{
-    Inst::MovWide {
-        op: if first {
-            MoveWideOp::MovZ
-        } else {
-            MoveWideOp::MovK
-        },
-        rd,
-        imm: MoveWideConst { bits, shift },
-    }
-}
-
+// MOVZ puts the lowest part that is not zero, or 0 where there is none, and MOVK each part above it.
 pub fn load_constant(rd: Reg, value: u64, list: &mut ItemList)
     ensures { Puts list.old list.new (code (load_constant_of rd value)) }
 {
-    let mut first = true;
+    let mut op = MoveWideOp::MovZ;
     for shift in 0..4 {
         let bits = part_of(value, shift);
         if bits != 0 {
-            list.inst(move_wide(first, rd, bits, shift));
-            first = false;
+            list.inst(Inst::MovWide {
+                op,
+                rd,
+                imm: MoveWideConst { bits, shift },
+            });
+            op = MoveWideOp::MovK;
         }
     }
-    if first {
-        list.inst(move_wide(true, rd, 0, 0));
+    if let MoveWideOp::MovZ = op {
+        list.inst(Inst::MovWide {
+            op,
+            rd,
+            imm: MoveWideConst { bits: 0, shift: 0 },
+        });
     }
 }
 
@@ -74,20 +67,10 @@ pub fn sp_by(op: AddSub, amount: u32, list: &mut ItemList)
     }
 }
 
-fn op_of(amount: i32) -> AddSub
-    ensures { result ≡ op_of amount }
-{
-    if amount < 0 { AddSub::Sub } else { AddSub::Add }
-}
-
-fn size_of(amount: i32) -> u32
-    ensures { result ≡ unsigned_abs amount }
-{
-    amount.unsigned_abs()
-}
-
+// SP down by a negative amount, else up.
 pub fn sp_reg_adjust(amount: i32, list: &mut ItemList)
     ensures { Puts list.old list.new (code (gen_sp_reg_adjust_of amount)) }
 {
-    sp_by(op_of(amount), size_of(amount), list);
+    let op = if amount < 0 { AddSub::Sub } else { AddSub::Add };
+    sp_by(op, amount.unsigned_abs(), list);
 }

@@ -17,7 +17,7 @@ fn gen_probestack_unroll(guard_size: u32, probe_count: u32, list: &mut ItemList)
     requires { guard_size * probe_count < 2 ^ 32 }
     ensures { Puts list.old list.new (code (gen_probestack_unroll_of guard_size probe_count)) }
 {
-    for _i in 0..probe_count {
+    for _ in 0..probe_count {
         sp_by(AddSub::Sub, guard_size, list);
         // stur wzr, [sp]
         list.inst(Inst::SturW {

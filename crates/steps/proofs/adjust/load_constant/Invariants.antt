@@ -7,4 +7,4 @@ use Rattle.steps.proofs.adjust.load_constant.Given as goal
 
 abbrev pub invariant-loop-shift : goal.invariant-loop-shift
 invariant-loop-shift l =
-    joined (listed l.list) (rest l.first l.rd l.value l.shift) ≡ joined (listed l.initial.list) (code (load_constant_of l.rd l.value))
+    joined (listed l.list) (rest l.op l.rd l.value l.shift) ≡ joined (listed l.initial.list) (code (load_constant_of l.rd l.value))

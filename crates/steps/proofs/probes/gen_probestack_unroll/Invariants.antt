@@ -4,6 +4,6 @@ use Rattle.item_list.specs.Lists.{listed, joined}
 use Rattle.steps.specs.Probes.{probe_each}
 use Rattle.steps.proofs.probes.gen_probestack_unroll.Given as goal
 
-abbrev pub invariant-loop-i : goal.invariant-loop-i
-invariant-loop-i l =
-    joined (listed l.list) (code (probe_each l.guard_size (l.probe_count - l._i))) ≡ joined (listed l.initial.list) (code (probe_each l.guard_size l.probe_count))
+abbrev pub invariant-loop : goal.invariant-loop
+invariant-loop l =
+    joined (listed l.list) (code (probe_each l.guard_size (l.probe_count - l.counter))) ≡ joined (listed l.initial.list) (code (probe_each l.guard_size l.probe_count))

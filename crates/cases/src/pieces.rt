@@ -53,7 +53,7 @@ fn same_notes(sink: &WordSink, words: &mut Words<'_>) -> bool {
         let Ok(note) = sink.note_at(i) else {
             return false;
         };
-        let Some(three) = note.words() else {
+        let Ok(three) = <[u32; 3]>::try_from(note) else {
             return false;
         };
         for n in three {

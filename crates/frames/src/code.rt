@@ -35,11 +35,9 @@ fn write_code(out: &mut impl Write, name: &str, code: &[u32]) -> io::Result<()> 
 }
 
 pub fn write_note(out: &mut impl Write, note: Note) -> io::Result<()> {
-    match note.words() {
-        Some(words) => {
-            let first = words[0];
-            let a = words[1];
-            let b = words[2];
+    match <[u32; 3]>::try_from(note) {
+        Ok(words) => {
+            let [first, a, b] = words;
             let place = note.place;
             let what = InWords(note.inst);
             writeln!(
@@ -47,7 +45,7 @@ pub fn write_note(out: &mut impl Write, note: Note) -> io::Result<()> {
                 "note {first} {a} {b} ; after instruction {place}: {what}"
             )
         }
-        None => Ok(()),
+        Err(_) => Ok(()),
     }
 }
 

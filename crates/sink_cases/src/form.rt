@@ -135,8 +135,18 @@ fn other(form: &str, line: &str) -> Inst {
     match form {
         "ADDI" => add_sub_imm(AddSub::Add, line),
         "SUBI" => add_sub_imm(AddSub::Sub, line),
-        "ADDX" => Inst::AddSubExt { op: AddSub::Add, rd, rn, rm },
-        "SUBX" => Inst::AddSubExt { op: AddSub::Sub, rd, rn, rm },
+        "ADDX" => Inst::AddSubExt {
+            op: AddSub::Add,
+            rd,
+            rn,
+            rm,
+        },
+        "SUBX" => Inst::AddSubExt {
+            op: AddSub::Sub,
+            rd,
+            rn,
+            rm,
+        },
         "ADDS" => Inst::AddsShifted { rd, rn, rm },
         "LDRX_UOFF" => ldr_uimm(line),
         "LDRX_REG" => Inst::LdrReg { rt: rd, rn, rm },

@@ -1,5 +1,5 @@
 -- Instructions and notes in a row of cells, and what one write leaves of them.
-use Rattle.std.proofs.Common.{◌≡◌, ℕ, zero, suc, ◌+◌, ◌-◌, ◌*◌, ◌/◌, ◌<◌, ◌≤◌, ◌≢◌, List, [], ◌∷◌, ◌++◌, map, length, get_or, take, drop, set, Some, None, sym, refl, ap, ◌∙◌, subst, arith}
+use Rattle.std.proofs.Common.{◌≡◌, ℕ, zero, suc, ◌+◌, ◌-◌, ◌*◌, ◌<◌, ◌≤◌, ◌≢◌, List, [], ◌∷◌, ◌++◌, map, length, get_or, take, drop, set, Some, None, sym, refl, ap, ◌∙◌, subst, arith}
 use Rattle.a64.specs.Words.{Reads}
 use Rattle.a64.specs.declared.inst.Inst.{Inst}
 use Rattle.decoder.specs.Reading.{reading}
@@ -158,13 +158,13 @@ held_rewound top ws i n j m fit len le less =
 
 -- ---- the walk over the notes in the cells
 
-pub stray_word_here : (i k top : ℕ) (ws : List ℕ) (n : ℕ) → k < n → i < get_or ws (note_base top k) 0 / 256 → stray i k (drop k (notes_of top ws n)) ≡ Some k
+pub stray_word_here : (i k top : ℕ) (ws : List ℕ) (n : ℕ) → k < n → i < (note_of top ws k).place → stray i k (drop k (notes_of top ws n)) ≡ Some k
 stray_word_here i k top ws n lt past =
     let l = length_notes top ws n in
     let e = note_read top ws n k (note_of top ws k) lt in
     stray_here i k (notes_of top ws n) (note_of top ws k) (omega arith) (subst (λ (x : Note). i < x.place) e past)
 
-pub stray_word_on : (i k top : ℕ) (ws : List ℕ) (n : ℕ) → k < n → get_or ws (note_base top k) 0 / 256 ≤ i →
+pub stray_word_on : (i k top : ℕ) (ws : List ℕ) (n : ℕ) → k < n → (note_of top ws k).place ≤ i →
     stray i k (drop k (notes_of top ws n)) ≡ stray i (k + 1) (drop (k + 1) (notes_of top ws n))
 stray_word_on i k top ws n lt kept =
     let l = length_notes top ws n in

@@ -1,7 +1,7 @@
 // Making a word sink, and its calls: prices 1 and 3.
 ghost use Rattle.std.specs.Prelude.{◌≡◌, ℕ, ◌+◌, ◌-◌, ◌*◌, ◌<◌, ◌≤◌, map, take, IfOk, vec_len};
 ghost use Rattle.decoder.specs.Reading.{reading};
-ghost use Rattle.word_sink.specs.Cells.{InstCells, NoteCells, cells_of, note_base, notes_of, word_held};
+ghost use Rattle.word_sink.specs.Cells.{InstCells, NoteCells, cells_of, note_base, note_of, notes_of, word_held};
 ghost use Rattle.sink.specs.Held.{PutInst, PutNote, Rewind, fresh, stray};
 
 use crate::WordSink;
@@ -42,14 +42,22 @@ impl WordSink {
         self.words.len() - 3 * (k + 1)
     }
 
+    // The place of note k.
+    fn place(&self, k: usize) -> usize
+        requires { k < self.now.notes }
+        ensures { result ≡ (note_of (vec_len self.now.words) self.now.words.items k).place }
+    {
+        (self.words[self.base(k)] / 256) as usize
+    }
+
     // The index of the first of the first n notes whose place is above i.
     fn first_stray(&self, i: usize, n: usize) -> Option<usize>
         requires { n ≤ self.now.notes }
         ensures { result ≡ stray i 0 (notes_of (vec_len self.now.words) self.now.words.items n) }
     {
+        // Not `(0..n).position(..)`: tried, and the proof of what it answers did not close.
         for k in 0..n {
-            let first = self.words[self.base(k)];
-            if (first / 256) as usize > i {
+            if self.place(k) > i {
                 return Some(k);
             }
         }

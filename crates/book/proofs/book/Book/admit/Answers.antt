@@ -23,7 +23,7 @@ pub returns-then-len-ge-FUNCTION_COUNT : goal.returns-then-len-ge-FUNCTION_COUNT
 returns-then-len-ge-FUNCTION_COUNT g c = (
   why_full (priced g.S.InstPrice.Price.units g.S.NotePrice.Price.units) (g.S.Sink.held c.args.self.now.sink) (numbers_of (listed c.args.self.now.shelf)) (fun (plain c.args.sheet) c.args.body.now) c.in_default.ensures
       (full_count (g.S.Sink.held c.args.self.now.sink) (listed c.args.self.now.shelf) (fun (plain c.args.sheet) c.args.body.now) c.len.result c.len.ensures c.if-len-ge-FUNCTION_COUNT.true)
-      ∙ ap (λ (t : Told). Some t) (sym c.refusal.ensures),
+      ∙ ap (λ (t : Told). Some t) (sym c.refusal-then-len-ge-FUNCTION_COUNT.ensures),
   tt,
 )
 

@@ -42,13 +42,12 @@ pub(crate) fn count_items(items: &[Item]) -> Tally
     ensures insts { result.insts ≡ length (insts_in items.now) }
     ensures notes { result.notes ≡ marks_in items.now }
 {
-    let mut insts = 0;
-    let mut notes = 0;
-    for item in items {
-        match item {
-            Item::Inst(_) => insts += 1,
-            Item::Note(_) => notes += 1,
-        }
+    let insts = items
+        .iter()
+        .filter(|item| matches!(**item, Item::Inst(_)))
+        .count();
+    Tally {
+        insts,
+        notes: items.len() - insts,
     }
-    Tally { insts, notes }
 }

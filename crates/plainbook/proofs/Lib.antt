@@ -1,4 +1,3 @@
-pub mod Counting
 pub mod Pieces
 pub mod Reading
 pub mod Standing

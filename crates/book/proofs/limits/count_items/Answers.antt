@@ -1,25 +1,23 @@
-use Rattle.std.proofs.Common.{rules}
-use Rattle.plainbook.proofs.Counting.{counted_none, counted_inst, counted_note, counted_all}
+use Rattle.std.proofs.Common.{rules, ◌≡◌, ℕ, ◌+◌, Bool, true, false, cond, List, [], ◌∷◌, length, count_by, arith, ◌∙◌}
+use Rattle.std.proofs.lemmas.List.Sums.{sum_by-cons}
+use Rattle.sink.specs.Items.{insts_in, marks_in}
+use Rattle.sink.specs.declared.item.Item.{Item}
 use Rattle.book.proofs.limits.count_items.Goals as goal
-use Rattle.book.proofs.limits.count_items.Goals.{in-Inst, in-Note}
 
-pub loop-item-init : goal.loop-item-init
-loop-item-init c = counted_none c.args.items.now
+abbrev is_inst : Item → Bool
+is_inst (Item.Inst x) = true
+is_inst (Item.Note u) = false
 
-pub overflow_add-insts : goal.overflow_add-insts
-overflow_add-insts c = let b = c.loop-item.invariant.both in search rules
+abbrev one : Item → ℕ
+one i = cond (is_inst i) 1 0
 
-pub overflow_add-notes : goal.overflow_add-notes
-overflow_add-notes c = let b = c.loop-item.invariant.both in search rules
-
-pub loop-item-preserved : goal.loop-item-preserved
-loop-item-preserved c =
-    elim c.match-item.branch [
-      | in-Inst w ↦ counted_inst c.args.items.now c.loop-item.item-index c.loop-item.insts c.loop-item.notes _ _ _ w.in-Inst.field-0 c.loop-item-test.true w.in-Inst.is c.loop-item.invariant w.insts-is w.notes-is
-      | in-Note w ↦ counted_note c.args.items.now c.loop-item.item-index c.loop-item.insts c.loop-item.notes _ _ _ w.in-Note.field-0 c.loop-item-test.true w.in-Note.is c.loop-item.invariant w.insts-is w.notes-is
-    ]
+counted : (xs : List Item) → (count_by is_inst xs ≡ length (insts_in xs)) × (length xs ≡ length (insts_in xs) + marks_in xs)
+counted [] = (omega arith, omega arith)
+counted (Item.Inst x ∷ xs) = let h = counted xs in (omega (arith, sum_by-cons one (Item.Inst x) xs), omega arith)
+counted (Item.Note u ∷ xs) = let h = counted xs in (omega (arith, sum_by-cons one (Item.Note u) xs), omega arith)
 
 pub returns : goal.returns
 returns c =
-    let a = counted_all c.args.items.now c.loop-item.item-index c.loop-item.insts c.loop-item.notes c.loop-item-test.false c.loop-item.invariant in
-    record { insts = a.0; notes = a.1 }
+    let k : c.count-insts.result ≡ count_by is_inst c.args.items.now = search rules in
+    let h = counted c.args.items.now in
+    record { insts = k ∙ h.0; notes = omega arith }

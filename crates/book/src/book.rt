@@ -13,13 +13,14 @@ ghost use Rattle.shelf.specs.Listed.{listed};
 ghost use Rattle.shelf.specs.Slots.{item_at, numbers_of};
 ghost use Rattle.sink.specs.Held.{counts_of};
 
-use crate::items::{epilogue_items, prologue_items};
-use crate::limits::{count_items, empty_book, number_held, past, too_many};
+use crate::items::items_of;
+use crate::limits::{count_items, past, refusal};
 use crate::puts::put_function;
 use a64::inst::Inst;
+use frame::piece::Piece;
 use layout::compute_frame_layout;
 use notes::Note;
-use refusal::Refusal;
+use refusal::{Cause, Refusal};
 use sheet::check::check;
 use sheet::checked::CheckedSheet;
 use sheet::types::Sheet;
@@ -45,20 +46,20 @@ impl<S: Sink> Book<S> {
     }
 
     pub fn inst_at(&self, i: usize) -> Result<Inst, Refusal>
-        ensures { (k : ℕ) (fs : _) → Stands (priced S.InstPrice.Price.units S.NotePrice.Price.units) k (S.held self.now.sink) (listed self.now.shelf) fs → said result ≡ read_at (meant (priced S.InstPrice.Price.units S.NotePrice.Price.units) k fs).insts i }
+        ensures { let p = priced S.InstPrice.Price.units S.NotePrice.Price.units in (k : ℕ) (fs : _) → Stands p k (S.held self.now.sink) (listed self.now.shelf) fs → said result ≡ read_at (meant p k fs).insts i }
     {
         self.sink.inst_at(i)
     }
 
     pub fn note_at(&self, i: usize) -> Result<Note, Refusal>
-        ensures { (k : ℕ) (fs : _) → Stands (priced S.InstPrice.Price.units S.NotePrice.Price.units) k (S.held self.now.sink) (listed self.now.shelf) fs → said result ≡ read_at (meant (priced S.InstPrice.Price.units S.NotePrice.Price.units) k fs).notes i }
+        ensures { let p = priced S.InstPrice.Price.units S.NotePrice.Price.units in (k : ℕ) (fs : _) → Stands p k (S.held self.now.sink) (listed self.now.shelf) fs → said result ≡ read_at (meant p k fs).notes i }
     {
         self.sink.note_at(i)
     }
 
     // How many instructions and notes there are, and the room.
     pub fn counts(&self) -> Counts
-        ensures { (k : ℕ) (fs : _) → Stands (priced S.InstPrice.Price.units S.NotePrice.Price.units) k (S.held self.now.sink) (listed self.now.shelf) fs → result ≡ counts_of (meant (priced S.InstPrice.Price.units S.NotePrice.Price.units) k fs) }
+        ensures { let p = priced S.InstPrice.Price.units S.NotePrice.Price.units in (k : ℕ) (fs : _) → Stands p k (S.held self.now.sink) (listed self.now.shelf) fs → result ≡ counts_of (meant p k fs) }
     {
         self.sink.counts()
     }
@@ -84,7 +85,7 @@ impl<S: Sink> Book<S> {
         ensures claims { (k : ℕ) (fs : _) → Stands (priced S.InstPrice.Price.units S.NotePrice.Price.units) k (S.held self.new.sink) (listed self.new.shelf) fs → AllClaimed (S.held self.new.sink) fs }
     {
         let Some(last) = self.shelf.last() else {
-            return Err(empty_book());
+            return Err(refusal(Cause::EmptyBook, 0));
         };
         self.sink.rewind(last.start, last.notes_start)?;
         self.shelf.cut_last();
@@ -104,20 +105,20 @@ impl<S: Sink> Book<S> {
         ensures { Answers (why_not (priced S.InstPrice.Price.units S.NotePrice.Price.units) (S.held self.now.sink) (numbers_of (listed self.now.shelf)) (fun (plain sheet) body.now)) (λ e. plain_entry e ≡ entry_of (length (S.held self.now.sink).insts) (length (S.held self.now.sink).notes) (fun (plain sheet) body.now)) (Unit {0}) result }
     {
         if let Some(slot) = self.shelf.slot_of(sheet.number) {
-            return Err(number_held(slot));
+            return Err(refusal(Cause::NumberHeld, slot));
         }
         if self.shelf.len() >= FUNCTION_COUNT {
-            return Err(too_many());
+            return Err(refusal(Cause::TooMany, 0));
         }
         let opening = count_items(prologue);
         let closing = count_items(epilogue);
         let sink = &self.sink;
         let held = sink.counts();
         if past(held.insts, opening.insts, body.len(), closing.insts) {
-            return Err(too_many());
+            return Err(refusal(Cause::TooMany, 0));
         }
         if past(held.notes, opening.notes, 0, closing.notes) {
-            return Err(too_many());
+            return Err(refusal(Cause::TooMany, 0));
         }
         let insts = opening.insts + body.len() + closing.insts;
         let notes = opening.notes + closing.notes;
@@ -138,14 +139,14 @@ impl<S: Sink> Book<S> {
 
     // Puts a function's prologue, body words and epilogue, lists it, and answers its slot.
     pub fn add(&mut self, sheet: Sheet<'_>, body: &[u32]) -> Result<usize, Refusal>
-        ensures moves { Moves (priced S.InstPrice.Price.units S.NotePrice.Price.units) (S.held self.old.sink) (listed self.old.shelf) (S.held self.new.sink) (listed self.new.shelf) (λ k fs. plain_add (priced S.InstPrice.Price.units S.NotePrice.Price.units) k fs (sheet_refusal sheet.entry) (fun (plain_of sheet.entry) body.now)) (λ k fs. grown fs (fun (plain_of sheet.entry) body.now) (plain_add (priced S.InstPrice.Price.units S.NotePrice.Price.units) k fs (sheet_refusal sheet.entry) (fun (plain_of sheet.entry) body.now))) (said result) }
+        ensures moves { let p = priced S.InstPrice.Price.units S.NotePrice.Price.units in let f = fun (plain_of sheet.entry) body.now in Moves p (S.held self.old.sink) (listed self.old.shelf) (S.held self.new.sink) (listed self.new.shelf) (λ k fs. plain_add p k fs (sheet_refusal sheet.entry) f) (λ k fs. grown fs f (plain_add p k fs (sheet_refusal sheet.entry) f)) (said result) }
         ensures refused { OnErr result ((S.held self.new.sink ≡ S.held self.old.sink) × (listed self.new.shelf ≡ listed self.old.shelf)) }
         ensures claims { (k : ℕ) (fs : _) → Stands (priced S.InstPrice.Price.units S.NotePrice.Price.units) k (S.held self.new.sink) (listed self.new.shelf) fs → AllClaimed (S.held self.new.sink) fs }
     {
         let checked = check(sheet)?;
         let layout = compute_frame_layout(checked);
-        let prologue = prologue_items(&layout);
-        let epilogue = epilogue_items(&layout);
+        let prologue = items_of(Piece::Prologue, &layout);
+        let epilogue = items_of(Piece::Epilogue, &layout);
         let entry = self.admit(checked, prologue.as_slice(), body, epilogue.as_slice())?;
         let slot = self.shelf.len();
         put_function(
@@ -163,11 +164,10 @@ impl<S: Sink> Book<S> {
 impl<S: Sink + Drop> Book<S> {
     // A book with nothing in it, over a sink that is rewound to nothing. Want of memory hands the sink back.
     pub fn new(heap: Global, sink: S) -> Result<Book<S>, AllocFailed<S>>
-        ensures { MatchResult result (λ b. Stands (priced S.InstPrice.Price.units S.NotePrice.Price.units) (fed (priced S.InstPrice.Price.units S.NotePrice.Price.units) (S.held sink)) (S.held b.sink) (listed b.shelf) []) (λ e. e.value ≡ sink) }
+        ensures { let p = priced S.InstPrice.Price.units S.NotePrice.Price.units in MatchResult result (λ b. Stands p (fed p (S.held sink)) (S.held b.sink) (listed b.shelf) []) (λ e. e.value ≡ sink) }
     {
-        let shelf = match Shelf::new(heap) {
-            Ok(s) => s,
-            Err(_) => return Err(AllocFailed { value: sink }),
+        let Ok(shelf) = Shelf::new(heap) else {
+            return Err(AllocFailed { value: sink });
         };
         let mut own = sink;
         // Nothing is beyond a rewind to nothing.

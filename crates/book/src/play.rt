@@ -14,7 +14,7 @@ use std::alloc::{AllocFailed, Global};
 impl<S: Sink> Book<S> {
     // One call, and its answer.
     fn step(&mut self, call: &Call) -> Answer
-        ensures { Moves (priced S.InstPrice.Price.units S.NotePrice.Price.units) (S.held self.old.sink) (listed self.old.shelf) (S.held self.new.sink) (listed self.new.shelf) (λ k fs. answer (priced S.InstPrice.Price.units S.NotePrice.Price.units) k fs call.now) (λ k fs. after (priced S.InstPrice.Price.units S.NotePrice.Price.units) k fs call.now) (said_by result) }
+        ensures { let p = priced S.InstPrice.Price.units S.NotePrice.Price.units in Moves p (S.held self.old.sink) (listed self.old.shelf) (S.held self.new.sink) (listed self.new.shelf) (λ k fs. answer p k fs call.now) (λ k fs. after p k fs call.now) (said_by result) }
     {
         match call {
             Call::Add(sheet, body) => Answer::Added(self.add(*sheet, body)),
@@ -42,9 +42,8 @@ pub fn play<S: Sink + Drop>(
 ) -> Result<Played<S>, AllocFailed<S>>
     ensures { MatchResult result (λ b. Right (priced S.InstPrice.Price.units S.NotePrice.Price.units) (S.held sink) (S.held b.book.sink) (listed b.book.shelf) calls.now b.answers.items) (λ e. e.value ≡ sink) }
 {
-    let mut answers = match Vec::with_capacity(heap, calls.len()) {
-        Ok(v) => v,
-        Err(_) => return Err(AllocFailed { value: sink }),
+    let Ok(mut answers) = Vec::with_capacity(heap, calls.len()) else {
+        return Err(AllocFailed { value: sink });
     };
     let mut book = Book::new(heap, sink)?;
     for call in calls {

@@ -1,6 +1,6 @@
 // Cases of frames: what a piece puts on a word sink, word by word.
 use crate::sheets::with_layout;
-use emit::{pieces, small};
+use emitter::Emitter;
 use layout::FrameLayout;
 use numerals::number;
 use sink::sink::Sink;
@@ -72,11 +72,11 @@ fn puts(
     words: &mut Words<'_>,
 ) -> Result<bool, AllocError> {
     let mut sink = WordSink::new(heap, ROOM)?;
+    let mut emitter = Emitter::new();
     let put = match piece {
-        Piece::Prologue => pieces::put_prologue(l, &mut sink),
-        Piece::Epilogue => pieces::put_epilogue(l, &mut sink),
-        Piece::Save => pieces::gen_clobber_save(l, &mut sink),
-        Piece::Notes => pieces::put_prologue(l, &mut sink),
+        Piece::Prologue | Piece::Notes => emitter.put_prologue(l, &mut sink),
+        Piece::Epilogue => emitter.put_epilogue(l, &mut sink),
+        Piece::Save => emitter.gen_clobber_save(l, &mut sink),
     };
     if put.is_err() {
         return Ok(false);
@@ -107,7 +107,7 @@ pub fn adjusted(heap: Global, words: &mut Words<'_>) -> Result<bool, AllocError>
         return Ok(false);
     };
     let mut sink = WordSink::new(heap, ROOM)?;
-    match small::gen_sp_reg_adjust(amount, &mut sink) {
+    match Emitter::new().gen_sp_reg_adjust(amount, &mut sink) {
         Ok(_) => Ok(same_code(sink.code(), words)),
         Err(_) => Ok(false),
     }
@@ -126,7 +126,7 @@ pub fn probed(heap: Global, words: &mut Words<'_>) -> Result<bool, AllocError> {
         return Ok(false);
     };
     let mut sink = WordSink::new(heap, ROOM)?;
-    match small::gen_inline_probestack(size, guard, &mut sink) {
+    match Emitter::new().gen_inline_probestack(size, guard, &mut sink) {
         Ok(_) => Ok(same_code(sink.code(), words)),
         Err(_) => Ok(false),
     }

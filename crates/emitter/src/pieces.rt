@@ -1,38 +1,17 @@
 // The pieces of a laid-out frame, and its whole prologue and epilogue.
-ghost use Rattle.frame.specs.Named.{piece_of};
 ghost use Rattle.frame.specs.Pieces.{epilogue, gen_clobber_restore_of, gen_clobber_save_of, gen_epilogue_frame_restore_of, gen_prologue_frame_setup_of, gen_return_of, prologue};
 ghost use Rattle.item_list.specs.Items.{code};
 ghost use Rattle.sheet.specs.Checks.{plain};
 ghost use Rattle.sink.specs.Items.{PutPiece};
 
 use crate::Emitter;
-use frame::piece::{Piece, list_piece};
+use crate::part::Part;
+use frame::piece::Piece;
 use layout::FrameLayout;
 use refusal::Refusal;
-use sink::item::put_readable;
-use sink::readable::Readable;
 use sink::sink::Sink;
 
 impl Emitter {
-    // A piece, whole or not at all.
-    fn put<S: Sink>(
-        &mut self,
-        piece: Piece,
-        layout: &FrameLayout,
-        sink: &mut S,
-    ) -> Result<(), Refusal>
-        ensures { PutPiece (record { inst = S.InstPrice.Price.units; note = S.NotePrice.Price.units }) (S.held sink.old) (piece_of piece (plain layout.now.sheet)) (S.held sink.new) result }
-    {
-        self.list.clear();
-        list_piece(piece, layout, &mut self.list);
-        put_readable(
-            sink,
-            Readable {
-                items: self.list.as_slice(),
-            },
-        )
-    }
-
     // The landing pad and the seal, then FP and LR.
     pub fn gen_prologue_frame_setup<S: Sink>(
         &mut self,
@@ -41,7 +20,7 @@ impl Emitter {
     ) -> Result<(), Refusal>
         ensures { PutPiece (record { inst = S.InstPrice.Price.units; note = S.NotePrice.Price.units }) (S.held sink.old) (gen_prologue_frame_setup_of (plain layout.now.sheet)) (S.held sink.new) result }
     {
-        self.put(Piece::PrologueFrameSetup, layout, sink)
+        self.put(Part::Frame(Piece::PrologueFrameSetup, layout), sink)
     }
 
     // Room for a tail call, the saved registers, the storage.
@@ -52,7 +31,7 @@ impl Emitter {
     ) -> Result<(), Refusal>
         ensures { PutPiece (record { inst = S.InstPrice.Price.units; note = S.NotePrice.Price.units }) (S.held sink.old) (gen_clobber_save_of (plain layout.now.sheet)) (S.held sink.new) result }
     {
-        self.put(Piece::ClobberSave, layout, sink)
+        self.put(Part::Frame(Piece::ClobberSave, layout), sink)
     }
 
     // The storage freed, and the registers back.
@@ -63,7 +42,7 @@ impl Emitter {
     ) -> Result<(), Refusal>
         ensures { PutPiece (record { inst = S.InstPrice.Price.units; note = S.NotePrice.Price.units }) (S.held sink.old) (code (gen_clobber_restore_of (plain layout.now.sheet))) (S.held sink.new) result }
     {
-        self.put(Piece::ClobberRestore, layout, sink)
+        self.put(Part::Frame(Piece::ClobberRestore, layout), sink)
     }
 
     // FP and LR back, and what the callee gives back.
@@ -74,14 +53,14 @@ impl Emitter {
     ) -> Result<(), Refusal>
         ensures { PutPiece (record { inst = S.InstPrice.Price.units; note = S.NotePrice.Price.units }) (S.held sink.old) (code (gen_epilogue_frame_restore_of (plain layout.now.sheet))) (S.held sink.new) result }
     {
-        self.put(Piece::EpilogueFrameRestore, layout, sink)
+        self.put(Part::Frame(Piece::EpilogueFrameRestore, layout), sink)
     }
 
     // The return, checked where the address is sealed.
     pub fn gen_return<S: Sink>(&mut self, layout: &FrameLayout, sink: &mut S) -> Result<(), Refusal>
         ensures { PutPiece (record { inst = S.InstPrice.Price.units; note = S.NotePrice.Price.units }) (S.held sink.old) (code (gen_return_of (plain layout.now.sheet))) (S.held sink.new) result }
     {
-        self.put(Piece::Return, layout, sink)
+        self.put(Part::Frame(Piece::Return, layout), sink)
     }
 
     // Setup, with probes on the probes, then clobber save.
@@ -92,7 +71,7 @@ impl Emitter {
     ) -> Result<(), Refusal>
         ensures { PutPiece (record { inst = S.InstPrice.Price.units; note = S.NotePrice.Price.units }) (S.held sink.old) (prologue (plain layout.now.sheet)) (S.held sink.new) result }
     {
-        self.put(Piece::Prologue, layout, sink)
+        self.put(Part::Frame(Piece::Prologue, layout), sink)
     }
 
     // Restore, frame restore, return.
@@ -103,6 +82,6 @@ impl Emitter {
     ) -> Result<(), Refusal>
         ensures { PutPiece (record { inst = S.InstPrice.Price.units; note = S.NotePrice.Price.units }) (S.held sink.old) (epilogue (plain layout.now.sheet)) (S.held sink.new) result }
     {
-        self.put(Piece::Epilogue, layout, sink)
+        self.put(Part::Frame(Piece::Epilogue, layout), sink)
     }
 }

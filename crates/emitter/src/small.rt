@@ -1,19 +1,23 @@
 // The pieces that need no layout.
-ghost use Rattle.emit.specs.Put.{PutProbes};
+ghost use Rattle.emitter.specs.Put.{PutProbes, bad_guard_of};
 ghost use Rattle.item_list.specs.Items.{code};
 ghost use Rattle.steps.specs.Adjust.{gen_sp_reg_adjust_of, load_constant_of};
 ghost use Rattle.sink.specs.Items.{PutItems, PutPiece};
 ghost use Rattle.std.specs.Prelude.{◌≡◌};
 
 use crate::Emitter;
+use crate::part::Part;
+use a64::imm::Imm12;
 use a64::inst::Reg;
-use emit::small::is_bad_guard;
 use refusal::{Cause, Layer, Refusal};
-use sink::item::{put_items, put_readable};
-use sink::readable::Readable;
 use sink::sink::Sink;
-use steps::adjust;
-use steps::probes::inline_probestack;
+
+// The guard is 0, no multiple of 16, or no immediate.
+pub fn is_bad_guard(guard_size: u32) -> bool
+    ensures { result ≡ bad_guard_of guard_size }
+{
+    guard_size == 0 || guard_size % 16 != 0 || Imm12::maybe_from_u64(guard_size as u64).is_none()
+}
 
 impl Emitter {
     // A 64-bit constant in a register.
@@ -25,23 +29,14 @@ impl Emitter {
     ) -> Result<(), Refusal>
         ensures { PutItems (record { inst = S.InstPrice.Price.units; note = S.NotePrice.Price.units }) (S.held sink.old) (code (load_constant_of rd value)) (S.held sink.new) result }
     {
-        self.list.clear();
-        adjust::load_constant(rd, value, &mut self.list);
-        put_items(sink, self.list.as_slice())
+        self.put(Part::Constant(rd, value), sink)
     }
 
     // SP by a signed amount.
     pub fn gen_sp_reg_adjust<S: Sink>(&mut self, amount: i32, sink: &mut S) -> Result<(), Refusal>
         ensures { PutPiece (record { inst = S.InstPrice.Price.units; note = S.NotePrice.Price.units }) (S.held sink.old) (code (gen_sp_reg_adjust_of amount)) (S.held sink.new) result }
     {
-        self.list.clear();
-        adjust::sp_reg_adjust(amount, &mut self.list);
-        put_readable(
-            sink,
-            Readable {
-                items: self.list.as_slice(),
-            },
-        )
+        self.put(Part::SpBy(amount), sink)
     }
 
     // A probe for each guard that the frame passes over.
@@ -60,13 +55,6 @@ impl Emitter {
                 place: 0,
             });
         }
-        self.list.clear();
-        inline_probestack(frame_size, guard_size, &mut self.list);
-        put_readable(
-            sink,
-            Readable {
-                items: self.list.as_slice(),
-            },
-        )
+        self.put(Part::Probes(frame_size, guard_size), sink)
     }
 }

@@ -32,10 +32,10 @@ returns-in_err-entry g c =
 pub put_function-requires : goal.put_function-requires
 put_function-requires g c =
     let same = c.compute_frame_layout-layout.ensures.sheet in
-    let a = c.as_slice-3.ensures ∙ c.prologue_items-prologue.ensures.items in
-    let b = c.as_slice-4.ensures ∙ c.epilogue_items-epilogue.ensures.items in record {
-      prologue_read = subst AllRead (sym a) c.prologue_items-prologue.ensures.read;
-      epilogue_read = subst AllRead (sym b) c.epilogue_items-epilogue.ensures.read;
+    let a = c.as_slice-3.ensures ∙ c.items_of-prologue.ensures.items in
+    let b = c.as_slice-4.ensures ∙ c.items_of-epilogue.ensures.items in record {
+      prologue_read = subst AllRead (sym a) c.items_of-prologue.ensures.read;
+      epilogue_read = subst AllRead (sym b) c.items_of-epilogue.ensures.read;
       fits = fits_by (priced g.S.InstPrice.Price.units g.S.NotePrice.Price.units) _ (plain c.in_ok-checked.checked) c.args.body.now _ _
           (a ∙ ap (λ (x : CheckedSheet). prologue (plain x)) same) (b ∙ ap (λ (x : CheckedSheet). epilogue (plain x)) same)
           (none_fits (priced g.S.InstPrice.Price.units g.S.NotePrice.Price.units) (g.S.Sink.held c.args.self.now.sink) _ (fun (plain c.in_ok-checked.checked) c.args.body.now) c.in_ok-entry.ensures.0);
@@ -44,8 +44,8 @@ put_function-requires g c =
 pub returns : goal.returns
 returns g c =
     let same = c.compute_frame_layout-layout.ensures.sheet in
-    let a = c.as_slice-3.ensures ∙ c.prologue_items-prologue.ensures.items in
-    let b = c.as_slice-4.ensures ∙ c.epilogue_items-epilogue.ensures.items in
+    let a = c.as_slice-3.ensures ∙ c.items_of-prologue.ensures.items in
+    let b = c.as_slice-4.ensures ∙ c.items_of-epilogue.ensures.items in
     let k = c.in_ok-checked.ensures in
     let e = c.in_ok-entry.ensures in
     record {

@@ -15,7 +15,7 @@ use Rattle.book.proofs.book.Book.admit.Goals as goal
 pub returns-in-Some : goal.returns-in-Some
 returns-in-Some g c = (
   why_taken (priced g.S.InstPrice.Price.units g.S.NotePrice.Price.units) _ _ (fun (plain c.args.sheet) c.args.body.now) c.in-Some.slot c.in-Some.ensures
-      ∙ ap (λ (t : Told). Some t) (sym c.number_held.ensures),
+      ∙ ap (λ (t : Told). Some t) (sym c.refusal.ensures),
   tt,
 )
 
@@ -23,7 +23,7 @@ pub returns-then-len-ge-FUNCTION_COUNT : goal.returns-then-len-ge-FUNCTION_COUNT
 returns-then-len-ge-FUNCTION_COUNT g c = (
   why_full (priced g.S.InstPrice.Price.units g.S.NotePrice.Price.units) (g.S.Sink.held c.args.self.now.sink) (numbers_of (listed c.args.self.now.shelf)) (fun (plain c.args.sheet) c.args.body.now) c.in_default.ensures
       (full_count (g.S.Sink.held c.args.self.now.sink) (listed c.args.self.now.shelf) (fun (plain c.args.sheet) c.args.body.now) c.len.result c.len.ensures c.if-len-ge-FUNCTION_COUNT.true)
-      ∙ ap (λ (t : Told). Some t) (sym c.too_many.ensures),
+      ∙ ap (λ (t : Told). Some t) (sym c.refusal-then-len-ge-FUNCTION_COUNT.ensures),
   tt,
 )
 
@@ -36,7 +36,7 @@ returns-then-past g c = (
       (c.count_items-opening.ensures.insts ∙ ap (λ (xs : List Item). length (insts_in xs)) c.requires.prologue_value)
       (c.count_items-closing.ensures.insts ∙ ap (λ (xs : List Item). length (insts_in xs)) c.requires.epilogue_value)
       (sym c.past.ensures ∙ c.if-past.true))
-      ∙ ap (λ (t : Told). Some t) (sym c.too_many-then-past.ensures),
+      ∙ ap (λ (t : Told). Some t) (sym c.refusal-then-past.ensures),
   tt,
 )
 
@@ -49,7 +49,7 @@ returns-then-past-2 g c = (
       (c.count_items-opening.ensures.notes ∙ ap marks_in c.requires.prologue_value)
       (c.count_items-closing.ensures.notes ∙ ap marks_in c.requires.epilogue_value)
       (sym c.past-2.ensures ∙ c.if-past-2.true))
-      ∙ ap (λ (t : Told). Some t) (sym c.too_many-then-past-2.ensures),
+      ∙ ap (λ (t : Told). Some t) (sym c.refusal-then-past-2.ensures),
   tt,
 )
 

@@ -9,7 +9,7 @@ pub returns-in_default : goal.returns-in_default
 returns-in_default g c = record {
   moves = λ r fs s.
       let n = none_held (priced g.S.InstPrice.Price.units g.S.NotePrice.Price.units) r _ _ fs s c.in_default.ensures in
-      (ap (λ (t : Told). Err t) c.empty_book.ensures ∙ n.0, n.1);
+      (ap (λ (t : Told). Err t) c.refusal.ensures ∙ n.0, n.1);
   refused = (refl, refl);
   claims = λ k fs s. claimed (priced g.S.InstPrice.Price.units g.S.NotePrice.Price.units) k _ _ fs s;
 }

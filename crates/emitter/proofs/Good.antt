@@ -1,6 +1,7 @@
 -- Items whose instructions are all readings, and how many they are at most.
 use Rattle.std.proofs.Common.{◌≡◌, ℕ, zero, suc, ◌+◌, ◌*◌, ◌/◌, ◌%◌, ◌^◌, ◌<◌, ◌≤◌, Bool, true, false, cond, not, ◌&&◌, ◌||◌, eqb, ltb, leb, List, [], ◌∷◌, ◌++◌, length, ℤ, pos, negsuc, Some, None, filter, Option, sym, refl, ap, ◌∙◌, subst, inl, mod-lt, arith, lit<, ltb-true, eqb-true, leb-true}
 use Rattle.std.proofs.lemmas.List.{length-append}
+use Rattle.std.proofs.lemmas.Bool.{and_parts, or_parts, not-true, cond_both}
 use Rattle.a64.specs.Operands.{imm12_of, uimm12_of}
 use Rattle.a64.specs.Words.{Formed, word}
 use Rattle.a64.specs.declared.imm.Imm12.{Imm12}
@@ -65,12 +66,10 @@ join_code : (m n : ℕ) (xs ys : List Inst) → Good m (code xs) → Good n (cod
 join_code m n xs ys g h = subst (Good (m + n)) (sym (code_append xs ys)) (join m n (code xs) (code ys) g h)
 
 either : (n : ℕ) (b : Bool) (xs ys : List Item) → (b ≡ true → Good n xs) → (b ≡ false → Good n ys) → Good n (cond b xs ys)
-either n true xs ys g h = g refl
-either n false xs ys g h = h refl
+either n b xs ys g h = cond_both b xs ys (Good n) g h
 
 either_code : (n : ℕ) (b : Bool) (xs ys : List Inst) → (b ≡ true → Good n (code xs)) → (b ≡ false → Good n (code ys)) → Good n (code (cond b xs ys))
-either_code n true xs ys g h = g refl
-either_code n false xs ys g h = h refl
+either_code n b xs ys g h = cond_both b xs ys (λ (is : List Inst). Good n (code is)) g h
 
 empty : (n : ℕ) → Good n []
 empty n = more 0 n [] (omega arith) none
@@ -114,16 +113,8 @@ abbrev Imm12Ok : Option Imm12 → Type 0
 Imm12Ok None = Unit {0}
 Imm12Ok (Some i) = i.bits < 4096
 
-and_right : (a b : Bool) → (a && b) ≡ true → b ≡ true
-and_right true b e = e
-and_right false b e = absurd (let z : ◌≡◌ {A = Bool} false true = e in let n : ◌≡◌ {A = ℕ} 0 1 = cc in omega arith)
-
-and_left : (a b : Bool) → (a && b) ≡ true → a ≡ true
-and_left true b e = refl
-and_left false b e = e
-
 imm12_ok : (n : ℕ) → Imm12Ok (imm12_of n)
-imm12_ok n = go (ltb n 4096) (eqb (n % 4096) 0 && ltb n (2 ^ 24)) (λ e. ltb-true n 4096 e) (λ e. ltb-true n (2 ^ 24) (and_right (eqb (n % 4096) 0) (ltb n (2 ^ 24)) e))
+imm12_ok n = go (ltb n 4096) (eqb (n % 4096) 0 && ltb n (2 ^ 24)) (λ e. ltb-true n 4096 e) (λ e. ltb-true n (2 ^ 24) ((and_parts (eqb (n % 4096) 0) (ltb n (2 ^ 24)) e).1))
   where
     go : (a b : Bool) → (a ≡ true → n < 4096) → (b ≡ true → n < 2 ^ 24) →
         Imm12Ok (cond a (Some (record { bits = n; shift12 = false })) (cond b (Some (record { bits = n / 4096; shift12 = true })) None))
@@ -137,7 +128,7 @@ UImm12Ok (Some i) = (i.value < 32768) × (i.value % 8 ≡ 0)
 
 uimm12_ok : (n : ℕ) → UImm12Ok (uimm12_of (pos n))
 uimm12_ok n =
-    go (ltb n 32768 && eqb (n % 8) 0) (λ e. ltb-true n 32768 (and_left (ltb n 32768) (eqb (n % 8) 0) e)) (λ e. eqb-true (n % 8) 0 (and_right (ltb n 32768) (eqb (n % 8) 0) e))
+    go (ltb n 32768 && eqb (n % 8) 0) (λ e. ltb-true n 32768 ((and_parts (ltb n 32768) (eqb (n % 8) 0) e).0)) (λ e. eqb-true (n % 8) 0 ((and_parts (ltb n 32768) (eqb (n % 8) 0) e).1))
   where
     go : (b : Bool) → (b ≡ true → n < 32768) → (b ≡ true → n % 8 ≡ 0) → UImm12Ok (cond b (Some (record { value = n })) None)
     go true f g = (f refl, g refl)
@@ -226,32 +217,21 @@ abbrev apart : List ℕ → Bool
 apart [] = true
 apart (x ∷ xs) = ltb x 32 && (not (has xs x) && apart xs)
 
-not_true : (b : Bool) → not b ≡ true → b ≡ false
-not_true true e = sym e
-not_true false e = refl
-
 apart_is : (xs : List ℕ) → apart xs ≡ true → Apart xs
 apart_is [] e = tt
 apart_is (x ∷ xs) e =
-    let f = and_right (ltb x 32) (not (has xs x) && apart xs) e in
-    (ltb-true x 32 (and_left (ltb x 32) (not (has xs x) && apart xs) e), not_true (has xs x) (and_left (not (has xs x)) (apart xs) f), apart_is xs (and_right (not (has xs x)) (apart xs) f))
+    let f = and_parts (ltb x 32) (not (has xs x) && apart xs) e in
+    let g = and_parts (not (has xs x)) (apart xs) f.1 in
+    (ltb-true x 32 f.0, not-true (has xs x) g.0, apart_is xs g.1)
 
 ints_apart : (d : Bool) → Apart (ints d)
 unfolding ints
 ints_apart true = apart_is (ints true) refl
 ints_apart false = apart_is (ints false) refl
 
-or_left : (a b : Bool) → (a || b) ≡ false → a ≡ false
-or_left true b e = e
-or_left false b e = refl
-
-or_right : (a b : Bool) → (a || b) ≡ false → b ≡ false
-or_right true b e = absurd (let z : ◌≡◌ {A = Bool} true false = e in let n : ◌≡◌ {A = ℕ} 0 1 = cc in omega arith)
-or_right false b e = e
-
 kept_has : (t : ℕ → Bool) (x : ℕ) (xs : List ℕ) → has xs x ≡ false → has (filter t xs) x ≡ false
 kept_has t x [] e = refl
-kept_has t x (y ∷ ys) e = go (t y) (or_left (eqb x y) (has ys x) e) (kept_has t x ys (or_right (eqb x y) (has ys x) e))
+kept_has t x (y ∷ ys) e = let p = or_parts (eqb x y) (has ys x) e in go (t y) p.0 (kept_has t x ys p.1)
   where
     go : (b : Bool) → eqb x y ≡ false → has (filter t ys) x ≡ false → has (cond b (y ∷ filter t ys) (filter t ys)) x ≡ false
     go true f g = ap (λ (c : Bool). c || has (filter t ys) x) f ∙ g
@@ -280,12 +260,12 @@ SlotsOk (s ∷ ss) = SlotOk s × SlotsOk ss
 twos_x_ok : (xs : List ℕ) → Apart xs → SlotsOk (twos_x xs)
 twos_x_ok [] a = tt
 twos_x_ok (x ∷ []) a = (a.0, tt)
-twos_x_ok (x ∷ y ∷ rs) a = ((a.0, a.2.0, or_left (eqb x y) (has rs x) a.1), twos_x_ok rs a.2.2)
+twos_x_ok (x ∷ y ∷ rs) a = ((a.0, a.2.0, (or_parts (eqb x y) (has rs x) a.1).0), twos_x_ok rs a.2.2)
 
 twos_d_ok : (xs : List ℕ) → Apart xs → SlotsOk (twos_d xs)
 twos_d_ok [] a = tt
 twos_d_ok (x ∷ []) a = (a.0, tt)
-twos_d_ok (x ∷ y ∷ rs) a = ((a.0, a.2.0, or_left (eqb x y) (has rs x) a.1), twos_d_ok rs a.2.2)
+twos_d_ok (x ∷ y ∷ rs) a = ((a.0, a.2.0, (or_parts (eqb x y) (has rs x) a.1).0), twos_d_ok rs a.2.2)
 
 each_q_ok : (xs : List ℕ) → Apart xs → SlotsOk (each_q xs)
 each_q_ok [] a = tt

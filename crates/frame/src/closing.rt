@@ -29,7 +29,7 @@ fn restore_all(layout: &FrameLayout, list: &mut ItemList)
     }
 }
 
-pub fn clobber_restore(layout: &FrameLayout, list: &mut ItemList)
+pub(crate) fn clobber_restore(layout: &FrameLayout, list: &mut ItemList)
     ensures { Puts list.old list.new (code (gen_clobber_restore_of (plain layout.now.sheet))) }
 {
     sp_by(AddSub::Add, stack_size(layout), list);
@@ -46,7 +46,7 @@ fn pop_frame(layout: &FrameLayout, list: &mut ItemList)
     }
 }
 
-pub fn epilogue_frame_restore(layout: &FrameLayout, list: &mut ItemList)
+pub(crate) fn epilogue_frame_restore(layout: &FrameLayout, list: &mut ItemList)
     ensures { Puts list.old list.new (code (gen_epilogue_frame_restore_of (plain layout.now.sheet))) }
 {
     pop_frame(layout, list);
@@ -74,7 +74,7 @@ fn authenticated_ret(key: ApiKey, is_hint: bool, list: &mut ItemList)
     }
 }
 
-pub fn list_return(layout: &FrameLayout, list: &mut ItemList)
+pub(crate) fn list_return(layout: &FrameLayout, list: &mut ItemList)
     ensures { Puts list.old list.new (code (gen_return_of (plain layout.now.sheet))) }
 {
     match api_key(layout) {
@@ -84,7 +84,7 @@ pub fn list_return(layout: &FrameLayout, list: &mut ItemList)
 }
 
 #[tactic(auto, using(crate::proofs::Putting::puts), unfolding(crate::specs::Pieces::epilogue))]
-pub fn list_epilogue(layout: &FrameLayout, list: &mut ItemList)
+pub(crate) fn list_epilogue(layout: &FrameLayout, list: &mut ItemList)
     ensures { Puts list.old list.new (epilogue_of (plain layout.now.sheet)) }
 {
     clobber_restore(layout, list);

@@ -1,9 +1,9 @@
 // The pieces that open and close a function, as lists of items.
 #![tactic(auto)]
 
-pub mod closing;
+mod closing;
 mod forms;
-pub mod opening;
+mod opening;
 mod parts;
 pub mod piece;
 mod slots;

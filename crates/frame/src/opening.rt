@@ -98,7 +98,7 @@ fn push_frame(layout: &FrameLayout, list: &mut ItemList)
     }
 }
 
-pub fn prologue_frame_setup(layout: &FrameLayout, list: &mut ItemList)
+pub(crate) fn prologue_frame_setup(layout: &FrameLayout, list: &mut ItemList)
     ensures { Puts list.old list.new (gen_prologue_frame_setup_of (plain layout.now.sheet)) }
 {
     seal(layout, list);
@@ -201,7 +201,7 @@ fn allocate(layout: &FrameLayout, list: &mut ItemList)
     }
 }
 
-pub fn clobber_save(layout: &FrameLayout, list: &mut ItemList)
+pub(crate) fn clobber_save(layout: &FrameLayout, list: &mut ItemList)
     ensures { Puts list.old list.new (gen_clobber_save_of (plain layout.now.sheet)) }
 {
     resize_incoming(layout, list);
@@ -219,7 +219,7 @@ fn probe_frame(layout: &FrameLayout, list: &mut ItemList)
 }
 
 #[tactic(auto, using(crate::proofs::Putting::puts), unfolding(crate::specs::Pieces::prologue))]
-pub fn list_prologue(layout: &FrameLayout, list: &mut ItemList)
+pub(crate) fn list_prologue(layout: &FrameLayout, list: &mut ItemList)
     ensures { Puts list.old list.new (prologue_of (plain layout.now.sheet)) }
 {
     prologue_frame_setup(layout, list);

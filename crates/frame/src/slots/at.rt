@@ -36,6 +36,7 @@ fn saved_codes(layout: &FrameLayout) -> (&[u8], &[u8])
 }
 
 // How many slots the vectors take.
+#[tactic(auto, using(crate::proofs::SlotLaws::vectors_count))]
 fn vector_slots(whole: bool, codes: &[u8]) -> usize
     ensures { result ≡ length (vector_slots_of whole (numbers codes.now)) }
 {
@@ -47,6 +48,7 @@ fn vector_slots(whole: bool, codes: &[u8]) -> usize
 }
 
 // Slot k of the vectors.
+#[tactic(auto, using(crate::proofs::SlotLaws::vectors_count))]
 fn vector_slot(whole: bool, codes: &[u8], k: usize) -> SaveSlot
     requires { k < length (vector_slots_of whole (numbers codes.now)) }
     ensures { as_slot result ≡ slice_index_or (vector_slots_of whole (numbers codes.now)) k (one_x 0) }

@@ -1,13 +1,7 @@
-use Rattle.std.proofs.Common.{arith, rules}
+use Rattle.std.proofs.Common.{rules}
 use Rattle.plainbook.specs.Plain.{priced}
-use Rattle.plainbook.proofs.Playing.{midway_none, midway_more, right}
+use Rattle.plainbook.proofs.Playing.{midway_more, right}
 use Rattle.book.proofs.play.play.Goals as goal
-
-pub loop-call-init : goal.loop-call-init
-loop-call-init g c = (λ r s. midway_none _ r _ _ _ _ s (search rules), search rules, search rules)
-
-pub push_reserved-requires : goal.push_reserved-requires
-push_reserved-requires g c = let i = c.loop-call.invariant in omega arith
 
 pub loop-call-preserved : goal.loop-call-preserved
 loop-call-preserved g c = (

@@ -1,6 +1,6 @@
 use Rattle.sink.proofs.Items.{not_refused}
 use Rattle.plainbook.specs.Plain.{priced}
-use Rattle.plainbook.proofs.Pieces.{word_more, word_all, word_fits}
+use Rattle.plainbook.proofs.Pieces.{word_more, word_fits}
 use Rattle.book.proofs.puts.put_words.Goals as goal
 
 pub returns-in_err-put_inst : goal.returns-in_err-put_inst
@@ -11,7 +11,3 @@ returns-in_err-put_inst g c =
 pub loop-w-preserved : goal.loop-w-preserved
 loop-w-preserved g c =
     word_more (priced g.S.InstPrice.Price.units g.S.NotePrice.Price.units) _ _ _ c.args.words.now c.loop-w.w-index _ c.decode.result c.loop-w-test.true c.loop-w.invariant c.decode.ensures.reading c.in_ok-put_inst.ensures.2
-
-pub returns : goal.returns
-returns g c =
-    word_all (priced g.S.InstPrice.Price.units g.S.NotePrice.Price.units) _ _ c.args.words.now c.loop-w.w-index c.loop-w-test.false c.loop-w.invariant

@@ -1,7 +1,0 @@
-use Rattle.std.proofs.Common.{ap}
-use Rattle.sink.specs.Held.{Held}
-use Rattle.plainbook.proofs.Reading.{read_right}
-use Rattle.book.proofs.book.Book.inst_at.Goals as goal
-
-pub returns : goal.returns
-returns g c = λ k fs s. read_right _ _ c.args.i c.inst_at.result c.inst_at.ensures (ap (λ (h : Held). h.insts) s.means)

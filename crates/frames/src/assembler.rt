@@ -1,4 +1,5 @@
 // A whole book as text that an assembler takes, its notes as unwind directives.
+use crate::register::Register;
 use a64::inst::Key;
 use asm::Asm;
 use book::book::Book;
@@ -61,13 +62,9 @@ fn saved(out: &mut impl Write, cfa: Cfa, up: u32, reg: u8) -> io::Result<()> {
     let Cfa::ByFp(down) = cfa else {
         return writeln!(out, "    // a register is saved, but no frame is defined");
     };
-    let at = up as i64 - down as i64;
-    if reg < 64 {
-        writeln!(out, "    .cfi_offset x{reg}, {at}")
-    } else {
-        let n = reg - 64;
-        writeln!(out, "    .cfi_offset d{n}, {at}")
-    }
+    let at = i64::from(up) - i64::from(down);
+    let name = Register::d(reg);
+    writeln!(out, "    .cfi_offset {name}, {at}")
 }
 
 fn sealed(out: &mut impl Write, on: bool) -> io::Result<()> {
@@ -115,11 +112,11 @@ fn directives_at<S: Sink>(
 ) -> io::Result<Cfa> {
     let mut cfa = before;
     for k in 0..e.notes {
-        if let Ok(note) = book.note_at(e.notes_start.saturating_add(k)) {
-            if note.place as usize == place {
-                cfa = cfa.after(note.inst);
-                directive(out, cfa, note.inst)?;
-            }
+        if let Ok(note) = book.note_at(e.notes_start.saturating_add(k))
+            && note.place as usize == place
+        {
+            cfa = cfa.after(note.inst);
+            directive(out, cfa, note.inst)?;
         }
     }
     Ok(cfa)
@@ -143,13 +140,7 @@ fn code<S: Sink>(out: &mut impl Write, book: &Book<S>, e: &Entry) -> io::Result<
 // Whether return addresses are sealed with the key B.
 fn with_key_b(sheet: CheckedSheet) -> bool {
     let sets_up = compute_frame_layout(sheet).setup_area_size > 0;
-    match select_api_key(sheet.flags, sheet.call_conv, sets_up) {
-        Some(k) => match k.key {
-            Key::A => false,
-            Key::B => true,
-        },
-        None => false,
-    }
+    select_api_key(sheet.flags, sheet.call_conv, sets_up).is_some_and(|k| matches!(k.key, Key::B))
 }
 
 // What stands before the first instruction.
@@ -175,19 +166,11 @@ fn function<S: Sink>(out: &mut impl Write, book: &Book<S>, e: &Entry) -> io::Res
     writeln!(out, "    .cfi_endproc\n    .size f{n}, .-f{n}")
 }
 
-fn function_count<S: Sink>(book: &Book<S>) -> usize {
-    let mut count = 0usize;
-    for slot in 0..FUNCTION_COUNT {
-        if book.entry_at(slot).is_some() {
-            count = count.saturating_add(1);
-        }
-    }
-    count
-}
-
 // The functions by slot, with a first and a last line that tell where the text begins and ends.
 pub fn assembler<S: Sink>(out: &mut impl Write, book: &Book<S>) -> io::Result<()> {
-    let count = function_count(book);
+    let count = (0..FUNCTION_COUNT)
+        .filter(|slot| book.entry_at(*slot).is_some())
+        .count();
     writeln!(
         out,
         "// book of {count} functions\n    .arch armv8.5-a+pauth\n    .text"

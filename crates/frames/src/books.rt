@@ -1,6 +1,6 @@
 // The part of a job behind one new sink: its calls are played on a new book by the call that carries the whole claim.
 use crate::assembler::assembler;
-use crate::code::{counts_of, write_note};
+use crate::code::{PieceCounts, counts_of, write_note};
 use crate::command::{Command, Kind, Mistake};
 use crate::show::show;
 use crate::{mistaken, perform, refused};
@@ -9,7 +9,7 @@ use book::play::{Played, play};
 use codec::encode;
 use plainbook::calls::{Answer, Call};
 use record_sink::RecordSink;
-use sink::sink::Sink;
+use sink::sink::{Counts, Sink};
 use std::alloc::{AllocError, Global};
 use std::io;
 use std::io::Write;
@@ -21,10 +21,18 @@ struct Line {
     command: Result<Command, Mistake>,
 }
 
+// The line that asks for a new sink.
+#[derive(Clone, Copy)]
+pub struct Opened {
+    pub number: u64,
+    pub kind: Kind,
+    pub length: usize,
+}
+
 // The lines since the last new sink, and that sink, if there was one.
 #[derive(Drop)]
 pub struct Part {
-    sink: Option<(u64, Kind, usize)>,
+    sink: Option<Opened>,
     lines: Vec<Line>,
 }
 
@@ -44,10 +52,10 @@ fn call_of(c: &Command) -> Option<Call<'_>> {
 fn calls_of(heap: Global, lines: &[Line]) -> Result<Vec<Call<'_>>, AllocError> {
     let mut all = Vec::new(heap);
     for line in lines {
-        if let Ok(c) = &line.command {
-            if let Some(call) = call_of(c) {
-                all.push(call)?;
-            }
+        if let Ok(c) = &line.command
+            && let Some(call) = call_of(c)
+        {
+            all.push(call)?;
         }
     }
     Ok(all)
@@ -56,8 +64,11 @@ fn calls_of(heap: Global, lines: &[Line]) -> Result<Vec<Call<'_>>, AllocError> {
 fn added(heap: Global, out: &mut impl Write, slot: usize, c: &Command) -> io::Result<()> {
     match c {
         Command::Add(sheet, words) => {
-            let n = counts_of(heap, sheet)?;
-            let (prologue, epilogue, notes) = n;
+            let PieceCounts {
+                prologue,
+                epilogue,
+                notes,
+            } = counts_of(heap, sheet)?;
             let body = words.len();
             writeln!(
                 out,
@@ -86,76 +97,32 @@ fn answered(heap: Global, out: &mut impl Write, c: &Command, a: Answer) -> io::R
         Answer::Inst(Err(r)) => refused(out, r),
         Answer::Note(Ok(note)) => write_note(out, note),
         Answer::Note(Err(r)) => refused(out, r),
-        Answer::Counted(n) => {
-            let insts = n.insts;
-            let notes = n.notes;
-            let room = n.room;
+        Answer::Counted(Counts { insts, notes, room }) => {
             writeln!(out, "counts {insts} {notes} {room}")
         }
     }
 }
 
-// A book over one of the two sinks, with its answers.
-#[derive(Drop)]
-enum Any {
-    Record(Played<RecordSink>),
-    Words(Played<WordSink>),
+// A sink that a job opens by its kind and its length.
+trait Opens: Sink + Drop {
+    fn open(heap: Global, length: usize) -> Result<Self, AllocError>;
 }
 
-impl Any {
-    fn answers(&self) -> &[Answer] {
-        match self {
-            Any::Record(p) => p.answers.as_slice(),
-            Any::Words(p) => p.answers.as_slice(),
-        }
-    }
-
-    fn show(&self, out: &mut impl Write) -> io::Result<()> {
-        match self {
-            Any::Record(p) => show(out, &p.book),
-            Any::Words(p) => show(out, &p.book),
-        }
-    }
-
-    fn assembler(&self, out: &mut impl Write) -> io::Result<()> {
-        match self {
-            Any::Record(p) => assembler(out, &p.book),
-            Any::Words(p) => assembler(out, &p.book),
-        }
+impl Opens for RecordSink {
+    fn open(heap: Global, length: usize) -> Result<RecordSink, AllocError> {
+        RecordSink::new(heap, length)
     }
 }
 
-// The first k calls, or all where there are no more.
-fn first<'a>(calls: &'a [Call<'a>], k: usize) -> &'a [Call<'a>] {
-    if k < calls.len() { &calls[0..k] } else { calls }
-}
-
-// Plays the calls on a new book, or nothing for want of memory.
-fn play_on(heap: Global, kind: Kind, length: usize, calls: &[Call]) -> Result<Any, AllocError> {
-    match kind {
-        Kind::Record => match play(heap, RecordSink::new(heap, length)?, calls) {
-            Ok(played) => Ok(Any::Record(played)),
-            Err(_) => Err(AllocError),
-        },
-        Kind::Words => match play(heap, WordSink::new(heap, length)?, calls) {
-            Ok(played) => Ok(Any::Words(played)),
-            Err(_) => Err(AllocError),
-        },
+impl Opens for WordSink {
+    fn open(heap: Global, length: usize) -> Result<WordSink, AllocError> {
+        WordSink::new(heap, length)
     }
 }
 
-fn room_of(heap: Global, kind: Kind, length: usize) -> Result<usize, AllocError> {
-    match kind {
-        Kind::Record => Ok(RecordSink::new(heap, length)?.counts().room),
-        Kind::Words => Ok(WordSink::new(heap, length)?.counts().room),
-    }
-}
-
-fn opened(out: &mut impl Write, kind: Kind, room: usize) -> io::Result<()> {
-    match kind {
-        Kind::Record => writeln!(out, "book record room {room}"),
-        Kind::Words => writeln!(out, "book words room {room}"),
-    }
+// Plays the calls on a new book.
+fn play_on<S: Opens>(heap: Global, length: usize, calls: &[Call]) -> Result<Played<S>, AllocError> {
+    Ok(play(heap, S::open(heap, length)?, calls)?)
 }
 
 // The answer to a line, the k-th of the calls if it is one; what k is then.
@@ -188,30 +155,16 @@ fn line_done(
 fn bookless(heap: Global, out: &mut impl Write, line: &Line, why: Mistake) -> io::Result<()> {
     match &line.command {
         Err(why) => mistaken(out, line.number, *why),
-        Ok(Command::Show) => mistaken(out, line.number, why),
-        Ok(Command::Asm) => mistaken(out, line.number, why),
-        Ok(c) => {
-            if call_of(c).is_some() {
-                mistaken(out, line.number, why)
-            } else {
-                perform(heap, out, c)
-            }
-        }
+        Ok(Command::Show | Command::Asm) => mistaken(out, line.number, why),
+        Ok(c) if call_of(c).is_some() => mistaken(out, line.number, why),
+        Ok(c) => perform(heap, out, c),
     }
 }
 
 impl Part {
-    // No sink yet.
-    pub fn new(heap: Global) -> Part {
+    pub fn new(heap: Global, sink: Option<Opened>) -> Part {
         Part {
-            sink: None,
-            lines: Vec::new(heap),
-        }
-    }
-
-    pub fn opened(heap: Global, number: u64, kind: Kind, length: usize) -> Part {
-        Part {
-            sink: Some((number, kind, length)),
+            sink,
             lines: Vec::new(heap),
         }
     }
@@ -226,46 +179,61 @@ impl Part {
     }
 
     fn without_book(&self, heap: Global, out: &mut impl Write, why: Mistake) -> io::Result<()> {
-        for line in self.lines.as_slice() {
+        for line in &self.lines {
             bookless(heap, out, line, why)?;
         }
         Ok(())
     }
 
-    fn with_book(
+    fn with_book<S: Opens>(
         &self,
         heap: Global,
         out: &mut impl Write,
-        kind: Kind,
         length: usize,
     ) -> io::Result<()> {
         let calls = calls_of(heap, self.lines.as_slice())?;
-        let played = play_on(heap, kind, length, calls.as_slice())?;
+        let played = play_on::<S>(heap, length, calls.as_slice())?;
         let mut k = 0;
-        for line in self.lines.as_slice() {
-            let so_far = first(calls.as_slice(), k);
+        for line in &self.lines {
+            let so_far = calls.get(..k).unwrap_or(calls.as_slice());
             match &line.command {
-                Ok(Command::Show) => play_on(heap, kind, length, so_far)?.show(out)?,
-                Ok(Command::Asm) => play_on(heap, kind, length, so_far)?.assembler(out)?,
-                _ => k = line_done(heap, out, line, played.answers(), k)?,
+                Ok(Command::Show) => show(out, &play_on::<S>(heap, length, so_far)?.book)?,
+                Ok(Command::Asm) => assembler(out, &play_on::<S>(heap, length, so_far)?.book)?,
+                _ => k = line_done(heap, out, line, played.answers.as_slice(), k)?,
             }
         }
         Ok(())
+    }
+
+    // Plays what was kept on a new sink of this kind.
+    fn on_sink<S: Opens>(
+        &self,
+        heap: Global,
+        out: &mut impl Write,
+        opened: Opened,
+    ) -> io::Result<()> {
+        match S::open(heap, opened.length) {
+            Ok(sink) => {
+                let kind = opened.kind;
+                let room = sink.counts().room;
+                drop(sink);
+                writeln!(out, "book {kind} room {room}")?;
+                self.with_book::<S>(heap, out, opened.length)
+            }
+            Err(_) => {
+                mistaken(out, opened.number, Mistake::Memory)?;
+                self.without_book(heap, out, Mistake::Memory)
+            }
+        }
     }
 
     // Plays what was kept, and prints every answer in its place.
     pub fn play_out(&self, heap: Global, out: &mut impl Write) -> io::Result<()> {
         match self.sink {
             None => self.without_book(heap, out, Mistake::NoBook),
-            Some((number, kind, length)) => match room_of(heap, kind, length) {
-                Ok(room) => {
-                    opened(out, kind, room)?;
-                    self.with_book(heap, out, kind, length)
-                }
-                Err(_) => {
-                    mistaken(out, number, Mistake::Memory)?;
-                    self.without_book(heap, out, Mistake::Memory)
-                }
+            Some(opened) => match opened.kind {
+                Kind::Record => self.on_sink::<RecordSink>(heap, out, opened),
+                Kind::Words => self.on_sink::<WordSink>(heap, out, opened),
             },
         }
     }

@@ -1,11 +1,11 @@
 // What the pieces of a frame put on a word sink, in lines.
 use crate::note_words::InWords;
-use crate::sheet_words::SheetWords;
-use a64::inst::Reg;
+use crate::stop::Stop;
 use asm::Asm;
 use emitter::Emitter;
 use layout::{FrameLayout, compute_frame_layout};
 use notes::Note;
+use owned_sheet::OwnedSheet;
 use refusal::Refusal;
 use sheet::check::check;
 use sink::sink::Sink;
@@ -35,98 +35,65 @@ fn write_code(out: &mut impl Write, name: &str, code: &[u32]) -> io::Result<()> 
 }
 
 pub fn write_note(out: &mut impl Write, note: Note) -> io::Result<()> {
-    match <[u32; 3]>::try_from(note) {
-        Ok(words) => {
-            let [first, a, b] = words;
-            let place = note.place;
-            let what = InWords(note.inst);
-            writeln!(
-                out,
-                "note {first} {a} {b} ; after instruction {place}: {what}"
-            )
-        }
-        Err(_) => Ok(()),
-    }
+    let Ok([first, a, b]) = <[u32; 3]>::try_from(note) else {
+        return Ok(());
+    };
+    let place = note.place;
+    let what = InWords(note.inst);
+    writeln!(
+        out,
+        "note {first} {a} {b} ; after instruction {place}: {what}"
+    )
 }
 
 fn write_notes(out: &mut impl Write, sink: &WordSink) -> io::Result<()> {
     for i in 0..sink.note_count() {
-        match sink.note_at(i) {
-            Ok(note) => write_note(out, note)?,
-            Err(_) => {}
+        if let Ok(note) = sink.note_at(i) {
+            write_note(out, note)?;
         }
     }
     Ok(())
 }
 
 // The prologue, the epilogue, and the notes.
-pub fn write_frame(
-    heap: Global,
-    out: &mut impl Write,
-    l: &FrameLayout,
-) -> io::Result<Result<(), Refusal>> {
+pub fn write_frame(heap: Global, out: &mut impl Write, l: &FrameLayout) -> Result<(), Stop> {
     let mut emitter = Emitter::new();
     let mut opening = WordSink::new(heap, ROOM)?;
     let mut closing = WordSink::new(heap, ROOM)?;
-    if let Err(r) = emitter.put_prologue(l, &mut opening) {
-        return Ok(Err(r));
-    }
-    if let Err(r) = emitter.put_epilogue(l, &mut closing) {
-        return Ok(Err(r));
-    }
+    emitter.put_prologue(l, &mut opening)?;
+    emitter.put_epilogue(l, &mut closing)?;
     write_code(out, "prologue", opening.code())?;
     write_code(out, "epilogue", closing.code())?;
     write_notes(out, &opening)?;
-    Ok(Ok(()))
+    Ok(())
 }
 
-// SP by a signed amount.
-pub fn write_adjust(
+// What one piece puts.
+pub(crate) fn write_piece<F: FnOnce(&mut Emitter, &mut WordSink) -> Result<(), Refusal>>(
     heap: Global,
     out: &mut impl Write,
-    amount: i32,
-) -> io::Result<Result<(), Refusal>> {
+    put: F,
+) -> Result<(), Stop>
+    requires { F.IsAlwaysCallable put }
+{
     let mut sink = WordSink::new(heap, ROOM)?;
-    if let Err(r) = Emitter::new().gen_sp_reg_adjust(amount, &mut sink) {
-        return Ok(Err(r));
-    }
+    put(&mut Emitter::new(), &mut sink)?;
     write_code(out, "code", sink.code())?;
-    Ok(Ok(()))
+    Ok(())
 }
 
-// The probes over a size.
-pub fn write_probes(
-    heap: Global,
-    out: &mut impl Write,
-    size: u32,
-    guard: u32,
-) -> io::Result<Result<(), Refusal>> {
-    let mut sink = WordSink::new(heap, ROOM)?;
-    if let Err(r) = Emitter::new().gen_inline_probestack(size, guard, &mut sink) {
-        return Ok(Err(r));
-    }
-    write_code(out, "code", sink.code())?;
-    Ok(Ok(()))
+// How many instructions a prologue and an epilogue have, and how many notes.
+#[derive(Clone, Copy, Default)]
+pub struct PieceCounts {
+    pub prologue: usize,
+    pub epilogue: usize,
+    pub notes: usize,
 }
 
-// A constant in x16.
-pub fn write_constant(
-    heap: Global,
-    out: &mut impl Write,
-    value: u64,
-) -> io::Result<Result<(), Refusal>> {
-    let mut sink = WordSink::new(heap, ROOM)?;
-    if let Err(r) = Emitter::new().load_constant(Reg::SPILLTMP, value, &mut sink) {
-        return Ok(Err(r));
-    }
-    write_code(out, "code", sink.code())?;
-    Ok(Ok(()))
-}
-
-// How many instructions the prologue and the epilogue of a sheet have, and how many notes.
-pub fn counts_of(heap: Global, words: &SheetWords) -> Result<(usize, usize, usize), AllocError> {
-    let Ok(checked) = check(words.sheet()) else {
-        return Ok((0, 0, 0));
+// The counts of a sheet's frame, 0 where it is refused.
+pub fn counts_of(heap: Global, sheet: &OwnedSheet) -> Result<PieceCounts, AllocError> {
+    let Ok(checked) = check(sheet.sheet()) else {
+        return Ok(PieceCounts::default());
     };
     let l = compute_frame_layout(checked);
     let mut emitter = Emitter::new();
@@ -134,9 +101,9 @@ pub fn counts_of(heap: Global, words: &SheetWords) -> Result<(usize, usize, usiz
     let mut closing = WordSink::new(heap, ROOM)?;
     let _ = emitter.put_prologue(&l, &mut opening);
     let _ = emitter.put_epilogue(&l, &mut closing);
-    Ok((
-        opening.inst_count(),
-        closing.inst_count(),
-        opening.note_count(),
-    ))
+    Ok(PieceCounts {
+        prologue: opening.inst_count(),
+        epilogue: closing.inst_count(),
+        notes: opening.note_count(),
+    })
 }

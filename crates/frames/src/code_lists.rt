@@ -1,4 +1,5 @@
 // Lists of register codes as numbers and as names.
+use crate::register::Register;
 use codes::list::CodeList;
 use std::fmt;
 
@@ -33,14 +34,9 @@ impl fmt::Display for Names<'_> {
             return f.write_str("saves nothing");
         }
         f.write_str("saves")?;
-        for c in codes {
-            let code = *c;
-            if code < 64 {
-                write!(f, " x{code}")?;
-            } else {
-                let n = code - 64;
-                write!(f, " v{n}")?;
-            }
+        for code in codes {
+            let name = Register::v(*code);
+            write!(f, " {name}")?;
         }
         Ok(())
     }

@@ -1,20 +1,21 @@
 // A command of a job, read from its line.
-use crate::sheet_words::{SheetWords, place, read_sheet, sized};
-use numerals::number;
-use std::alloc::Global;
+use crate::sheet_words::{read_sheet, sized};
+use numerals::number::{code_word, number, signed};
+use owned_sheet::OwnedSheet;
+use std::alloc::{AllocFailed, Global};
 use std::fmt;
 use text::words::Words;
 
 #[derive(Drop)]
 pub enum Command {
     Decode(u32),
-    Layout(SheetWords),
-    Frame(SheetWords),
+    Layout(OwnedSheet),
+    Frame(OwnedSheet),
     Adjust(i32),
     Probes(u32, u32),
     Constant(u64),
     Open(Kind, usize),
-    Add(SheetWords, Vec<u32>),
+    Add(OwnedSheet, Vec<u32>),
     Withdraw,
     Find(u32),
     Inst(usize),
@@ -29,6 +30,15 @@ pub enum Command {
 pub enum Kind {
     Record,
     Words,
+}
+
+impl fmt::Display for Kind {
+    fn fmt<W: fmt::Write>(&self, f: &mut fmt::Formatter<W>) -> fmt::Result {
+        f.write_str(match self {
+            Kind::Record => "record",
+            Kind::Words => "words",
+        })
+    }
 }
 
 // Why a line is no command.
@@ -79,120 +89,75 @@ impl fmt::Display for Mistake {
     }
 }
 
-fn code(words: &mut Words<'_>) -> Result<u32, Mistake> {
-    match words.next_word() {
-        Some(word) => match number::code_word(word) {
-            Some(w) => Ok(w),
-            None => Err(Mistake::CodeWord),
-        },
-        None => Err(Mistake::CodeWord),
+impl<T: Drop> From<AllocFailed<T>> for Mistake {
+    fn from(_e: AllocFailed<T>) -> Mistake {
+        Mistake::Memory
     }
+}
+
+fn code(words: &mut Words<'_>) -> Result<u32, Mistake> {
+    words.next().and_then(code_word).ok_or(Mistake::CodeWord)
 }
 
 fn amount(words: &mut Words<'_>) -> Result<i32, Mistake> {
-    let Some(word) = words.next_word() else {
-        return Err(Mistake::Signed);
-    };
-    let Some(n) = number::signed(word) else {
-        return Err(Mistake::Signed);
-    };
-    match i32::try_from(n) {
-        Ok(n) => Ok(n),
-        Err(_) => Err(Mistake::Signed),
-    }
+    let n = words.next().and_then(signed).ok_or(Mistake::Signed)?;
+    i32::try_from(n).or(Err(Mistake::Signed))
 }
 
 fn value(words: &mut Words<'_>) -> Result<u64, Mistake> {
-    match words.next_word() {
-        Some(word) => number::number(word).ok_or(Mistake::Wide),
-        None => Err(Mistake::Wide),
-    }
+    words.next().and_then(number).ok_or(Mistake::Wide)
 }
 
 fn index(words: &mut Words<'_>) -> Result<usize, Mistake> {
-    match usize::try_from(value(words)?) {
-        Ok(n) => Ok(n),
-        Err(_) => Err(Mistake::Wide),
-    }
+    usize::try_from(value(words)?).or(Err(Mistake::Wide))
 }
 
 // The code words behind `body`, to the end of the line.
 fn body(heap: Global, words: &mut Words<'_>) -> Result<Vec<u32>, Mistake> {
+    let Some(b"body") = words.next() else {
+        return Err(Mistake::Body);
+    };
     let mut all = Vec::new(heap);
-    match words.next_word() {
-        Some(b"body") => {}
-        _ => return Err(Mistake::Body),
-    }
-    for _ in 0..u64::MAX {
-        let Some(word) = words.next_word() else {
-            break;
-        };
-        let Some(w) = number::code_word(word) else {
-            return Err(Mistake::CodeWord);
-        };
-        if all.push(w).is_err() {
-            return Err(Mistake::Memory);
-        }
+    for word in words {
+        all.push(code_word(word).ok_or(Mistake::CodeWord)?)?;
     }
     Ok(all)
 }
 
-const COMMANDS: [&str; 16] = [
-    "decode", "layout", "frame", "adjust", "probes", "constant", "record", "words", "add",
-    "withdraw", "find", "inst", "note", "counts", "show", "asm",
-];
-
-fn without_book(heap: Global, at: u32, words: &mut Words<'_>) -> Result<Command, Mistake> {
-    match at {
-        0 => Ok(Command::Decode(code(words)?)),
-        1 => Ok(Command::Layout(read_sheet(heap, words)?)),
-        2 => Ok(Command::Frame(read_sheet(heap, words)?)),
-        3 => Ok(Command::Adjust(amount(words)?)),
-        4 => {
-            let size = sized(words)?;
-            Ok(Command::Probes(size, sized(words)?))
-        }
-        _ => Ok(Command::Constant(value(words)?)),
-    }
-}
-
-fn with_book(heap: Global, at: u32, words: &mut Words<'_>) -> Result<Command, Mistake> {
-    match at {
-        6 => Ok(Command::Open(Kind::Record, index(words)?)),
-        7 => Ok(Command::Open(Kind::Words, index(words)?)),
-        8 => {
+// The command of this name.
+fn named(heap: Global, name: &[u8], words: &mut Words<'_>) -> Result<Command, Mistake> {
+    match name {
+        b"decode" => Ok(Command::Decode(code(words)?)),
+        b"layout" => Ok(Command::Layout(read_sheet(heap, words)?)),
+        b"frame" => Ok(Command::Frame(read_sheet(heap, words)?)),
+        b"adjust" => Ok(Command::Adjust(amount(words)?)),
+        b"probes" => Ok(Command::Probes(sized(words)?, sized(words)?)),
+        b"constant" => Ok(Command::Constant(value(words)?)),
+        b"record" => Ok(Command::Open(Kind::Record, index(words)?)),
+        b"words" => Ok(Command::Open(Kind::Words, index(words)?)),
+        b"add" => {
             let sheet = read_sheet(heap, words)?;
             Ok(Command::Add(sheet, body(heap, words)?))
         }
-        9 => Ok(Command::Withdraw),
-        10 => Ok(Command::Find(sized(words)?)),
-        11 => Ok(Command::Inst(index(words)?)),
-        12 => Ok(Command::Note(index(words)?)),
-        13 => Ok(Command::Counts),
-        14 => Ok(Command::Show),
-        _ => Ok(Command::Asm),
-    }
-}
-
-fn named(heap: Global, name: &[u8], words: &mut Words<'_>) -> Result<Command, Mistake> {
-    let Some(at) = place(&COMMANDS, name) else {
-        return Err(Mistake::NoSuchCommand);
-    };
-    if at < 6 {
-        without_book(heap, at, words)
-    } else {
-        with_book(heap, at, words)
+        b"withdraw" => Ok(Command::Withdraw),
+        b"find" => Ok(Command::Find(sized(words)?)),
+        b"inst" => Ok(Command::Inst(index(words)?)),
+        b"note" => Ok(Command::Note(index(words)?)),
+        b"counts" => Ok(Command::Counts),
+        b"show" => Ok(Command::Show),
+        b"asm" => Ok(Command::Asm),
+        _ => Err(Mistake::NoSuchCommand),
     }
 }
 
 // The command of a line, or none where the line has no word.
 pub fn read_command(heap: Global, line: &[u8]) -> Result<Option<Command>, Mistake> {
     let mut words = Words::new(line);
-    let Some(name) = words.next_word() else {
+    let Some(name) = words.next() else {
         return Ok(None);
     };
     let read = named(heap, name, &mut words)?;
-    match words.next_word() {
+    match words.next() {
         None => Ok(Some(read)),
         Some(_) => Err(Mistake::TooManyWords),
     }

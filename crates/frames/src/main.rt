@@ -7,21 +7,25 @@ mod code;
 mod code_lists;
 mod command;
 mod note_words;
+mod register;
 mod sheet_words;
 mod show;
+mod stop;
 
 use crate::code_lists::{Codes, Names};
-use a64::inst::Inst;
+use a64::inst::{Inst, Reg};
 use asm::Asm;
-use books::Part;
-use command::{Command, Mistake};
+use books::{Opened, Part};
+use code::{write_frame, write_piece};
+use command::{Command, Mistake, read_command};
 use layout::{FrameLayout, compute_frame_layout};
+use owned_sheet::OwnedSheet;
 use refusal::Refusal;
 use sheet::check::check;
-use sheet_words::SheetWords;
 use std::alloc::Global;
 use std::io;
 use std::io::{BufWriter, Read, Write};
+use stop::Stop;
 use text::lines::Lines;
 
 fn decode(out: &mut impl Write, w: u32) -> io::Result<()> {
@@ -73,52 +77,45 @@ pub(crate) fn picture(out: &mut impl Write, l: &FrameLayout) -> io::Result<()> {
     writeln!(out, " entry SP | incoming {incoming}")
 }
 
-fn lay_out(out: &mut impl Write, words: &SheetWords) -> io::Result<()> {
-    match check(words.sheet()) {
-        Ok(checked) => laid_out(out, &compute_frame_layout(checked)),
-        Err(r) => refused(out, r),
-    }
+fn lay_out(out: &mut impl Write, sheet: &OwnedSheet) -> Result<(), Stop> {
+    laid_out(out, &compute_frame_layout(check(sheet.sheet())?))?;
+    Ok(())
 }
 
-// The refusal of a piece, where there is one.
-fn done(out: &mut impl Write, r: Result<(), Refusal>) -> io::Result<()> {
-    match r {
-        Ok(_) => Ok(()),
-        Err(r) => refused(out, r),
-    }
+fn whole_frame(heap: Global, out: &mut impl Write, sheet: &OwnedSheet) -> Result<(), Stop> {
+    let l = compute_frame_layout(check(sheet.sheet())?);
+    laid_out(out, &l)?;
+    write_frame(heap, out, &l)
 }
 
-fn whole_frame(heap: Global, out: &mut impl Write, words: &SheetWords) -> io::Result<()> {
-    match check(words.sheet()) {
-        Ok(checked) => {
-            let l = compute_frame_layout(checked);
-            laid_out(out, &l)?;
-            let r = code::write_frame(heap, out, &l)?;
-            done(out, r)
-        }
-        Err(r) => refused(out, r),
-    }
-}
-
-// A command that needs no book.
-pub(crate) fn perform(heap: Global, out: &mut impl Write, c: &Command) -> io::Result<()> {
+// What a command that needs no book asks for.
+fn answer(heap: Global, out: &mut impl Write, c: &Command) -> Result<(), Stop> {
     match c {
-        Command::Decode(w) => decode(out, *w),
-        Command::Layout(words) => lay_out(out, words),
-        Command::Frame(words) => whole_frame(heap, out, words),
-        Command::Adjust(amount) => {
-            let r = code::write_adjust(heap, out, *amount)?;
-            done(out, r)
+        Command::Decode(w) => {
+            decode(out, *w)?;
+            Ok(())
         }
-        Command::Probes(size, guard) => {
-            let r = code::write_probes(heap, out, *size, *guard)?;
-            done(out, r)
-        }
-        Command::Constant(value) => {
-            let r = code::write_constant(heap, out, *value)?;
-            done(out, r)
-        }
+        Command::Layout(sheet) => lay_out(out, sheet),
+        Command::Frame(sheet) => whole_frame(heap, out, sheet),
+        Command::Adjust(amount) => write_piece(heap, out, |emitter, sink| {
+            emitter.gen_sp_reg_adjust(*amount, sink)
+        }),
+        Command::Probes(size, guard) => write_piece(heap, out, |emitter, sink| {
+            emitter.gen_inline_probestack(*size, *guard, sink)
+        }),
+        Command::Constant(value) => write_piece(heap, out, |emitter, sink| {
+            emitter.load_constant(Reg::SPILLTMP, *value, sink)
+        }),
         _ => Ok(()),
+    }
+}
+
+// A command that needs no book, and its refusal where there is one.
+pub(crate) fn perform(heap: Global, out: &mut impl Write, c: &Command) -> io::Result<()> {
+    match answer(heap, out, c) {
+        Ok(()) => Ok(()),
+        Err(Stop::Refused(r)) => refused(out, r),
+        Err(Stop::Io(e)) => Err(e),
     }
 }
 
@@ -131,17 +128,20 @@ fn job(heap: Global, out: &mut impl Write, input: &[u8]) -> io::Result<()> {
     if input.is_empty() {
         mistaken(out, 1, Mistake::NoInput)?;
     }
-    let mut lines = Lines::new(input);
-    let mut part = Part::new(heap);
-    for number in 1..u64::MAX {
-        let Some(bytes) = lines.next_line() else {
-            break;
-        };
-        match command::read_command(heap, bytes) {
+    let mut part = Part::new(heap, None);
+    for (number, line) in (1..u64::MAX).zip(Lines::new(input)) {
+        match read_command(heap, line) {
             Ok(None) => {}
             Ok(Some(Command::Open(kind, length))) => {
                 part.play_out(heap, out)?;
-                part = Part::opened(heap, number, kind, length);
+                part = Part::new(
+                    heap,
+                    Some(Opened {
+                        number,
+                        kind,
+                        length,
+                    }),
+                );
             }
             Ok(Some(c)) => part.keep(number, Ok(c))?,
             Err(why) => part.keep(number, Err(why))?,

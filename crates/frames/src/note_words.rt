@@ -1,24 +1,10 @@
 // Unwind notes in words.
+use crate::register::Register;
 use notes::UnwindInst;
 use std::fmt;
 
 #[derive(Clone, Copy)]
 pub struct InWords(pub UnwindInst);
-
-#[derive(Clone, Copy)]
-struct Register(u8);
-
-impl fmt::Display for Register {
-    fn fmt<W: fmt::Write>(&self, f: &mut fmt::Formatter<W>) -> fmt::Result {
-        let code = self.0;
-        if code < 64 {
-            write!(f, "x{code}")
-        } else {
-            let n = code - 64;
-            write!(f, "v{n}")
-        }
-    }
-}
 
 impl fmt::Display for InWords {
     fn fmt<W: fmt::Write>(&self, f: &mut fmt::Formatter<W>) -> fmt::Result {
@@ -45,7 +31,7 @@ impl fmt::Display for InWords {
                 clobber_offset,
                 reg,
             } => {
-                let name = Register(reg);
+                let name = Register::v(reg);
                 let up = clobber_offset;
                 write!(f, "{name} is saved, {up} up from where saves begin")
             }

@@ -6,12 +6,10 @@ use book::book::Book;
 use codec::encode;
 use layout::compute_frame_layout;
 use shelf::entry::Entry;
-use sink::sink::Sink;
+use shelf::shelf::FUNCTION_COUNT;
+use sink::sink::{Counts, Sink};
 use std::io;
 use std::io::Write;
-
-// No book holds more functions.
-const FUNCTIONS: usize = 64;
 
 fn show_insts<S: Sink>(
     out: &mut impl Write,
@@ -21,11 +19,11 @@ fn show_insts<S: Sink>(
 ) -> io::Result<()> {
     for k in 0..count {
         let at = from.saturating_add(k);
-        if let Ok(i) = book.inst_at(at) {
-            if let Ok(w) = encode(i) {
-                let text = Asm(i);
-                writeln!(out, "{at:>6} {w:08X} {text}")?;
-            }
+        if let Ok(i) = book.inst_at(at)
+            && let Ok(w) = encode(i)
+        {
+            let text = Asm(i);
+            writeln!(out, "{at:>6} {w:08X} {text}")?;
         }
     }
     Ok(())
@@ -68,12 +66,9 @@ fn show_function<S: Sink>(
 }
 
 pub fn show<S: Sink>(out: &mut impl Write, book: &Book<S>) -> io::Result<()> {
-    let c = book.counts();
-    let insts = c.insts;
-    let notes = c.notes;
-    let room = c.room;
+    let Counts { insts, notes, room } = book.counts();
     writeln!(out, "book instructions {insts} notes {notes} room {room}")?;
-    for slot in 0..FUNCTIONS {
+    for slot in 0..FUNCTION_COUNT {
         if let Some(e) = book.entry_at(slot) {
             show_function(out, book, slot, e)?;
         }

@@ -1,6 +1,5 @@
 // Numbers read as conventions, call kinds and flags.
-ghost use Rattle.std.specs.Prelude.{◌≡◌};
-ghost use Rattle.sheet.specs.Plain.{conv_of, calls_of, flags_of, same, alike};
+ghost use Rattle.sheet.specs.Plain.{conv_of, calls_of, flags_of};
 ghost use Rattle.sheet.specs.Refused.{Reads};
 
 use crate::refused::refusal;
@@ -66,21 +65,5 @@ impl TryFrom<u32> for Flags {
             inline_probes: has_bit(n, 9),
             dynamic_vector: has_bit(n, 10),
         })
-    }
-}
-
-impl CallConv {
-    pub fn is(self, conv: CallConv) -> bool
-        ensures { result ≡ same self conv }
-    {
-        self == conv
-    }
-}
-
-impl FunctionCalls {
-    pub fn is(self, calls: FunctionCalls) -> bool
-        ensures { result ≡ alike self calls }
-    {
-        self == calls
     }
 }

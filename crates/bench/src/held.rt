@@ -1,6 +1,6 @@
 // How the cost of a book's calls grows with the functions that it holds.
-use crate::rows::Row;
 use book::book::Book;
+use owned_sheet::OwnedSheet;
 use refusal::Refusal;
 use sheet::types::Sheet;
 use std::alloc::{AllocError, Global};
@@ -13,7 +13,7 @@ const ROOM: usize = 1 << 16;
 const BODY: [u32; 8] = [0xd503_201f; 8];
 
 // The sheet of a row under another number.
-fn numbered(row: &Row, number: u32) -> Sheet<'_> {
+fn numbered(row: &OwnedSheet, number: u32) -> Sheet<'_> {
     Sheet {
         number,
         ..row.sheet()
@@ -21,11 +21,8 @@ fn numbered(row: &Row, number: u32) -> Sheet<'_> {
 }
 
 // A book that holds so many functions, as far as it takes them.
-pub fn filled(heap: Global, row: &Row, count: u32) -> Result<Book<WordSink>, AllocError> {
-    let sink = WordSink::new(heap, ROOM)?;
-    let Ok(mut book) = Book::new(heap, sink) else {
-        return Err(AllocError);
-    };
+pub fn filled(heap: Global, row: &OwnedSheet, count: u32) -> Result<Book<WordSink>, AllocError> {
+    let mut book = Book::new(heap, WordSink::new(heap, ROOM)?)?;
     for number in 0..count {
         let _ = book.add(numbered(row, number), &BODY);
     }
@@ -33,7 +30,7 @@ pub fn filled(heap: Global, row: &Row, count: u32) -> Result<Book<WordSink>, All
 }
 
 // One function more, looked up and withdrawn again.
-fn turn(book: &mut Book<WordSink>, row: &Row) -> Result<bool, Refusal> {
+fn turn(book: &mut Book<WordSink>, row: &OwnedSheet) -> Result<bool, Refusal> {
     book.add(numbered(row, 1000), &BODY)?;
     let found = book.look_up(1000).is_some();
     book.withdraw()?;
@@ -41,7 +38,7 @@ fn turn(book: &mut Book<WordSink>, row: &Row) -> Result<bool, Refusal> {
 }
 
 // How often that went well.
-pub fn turns(book: &mut Book<WordSink>, row: &Row, rounds: u64) -> u64 {
+pub fn turns(book: &mut Book<WordSink>, row: &OwnedSheet, rounds: u64) -> u64 {
     let mut well = 0u64;
     for _ in 0..rounds {
         if let Ok(true) = turn(book, row) {

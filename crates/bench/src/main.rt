@@ -5,11 +5,12 @@ mod held;
 mod rows;
 
 use crate::held::{filled, turns};
-use crate::rows::{Row, read_rows};
+use crate::rows::read_rows;
 use codec::{decode, encode};
 use emitter::Emitter;
 use layout::compute_frame_layout;
 use numerals::number::number;
+use owned_sheet::OwnedSheet;
 use refusal::Refusal;
 use sheet::check::check;
 use sink::sink::Sink;
@@ -33,7 +34,7 @@ struct Made {
 }
 
 // One frame, on a sink that is rewound first: how many words it has.
-fn make(row: &Row, emitter: &mut Emitter, sink: &mut WordSink) -> Result<usize, Refusal> {
+fn make(row: &OwnedSheet, emitter: &mut Emitter, sink: &mut WordSink) -> Result<usize, Refusal> {
     sink.rewind(0, 0)?;
     let layout = compute_frame_layout(check(row.sheet())?);
     emitter.put_prologue(&layout, sink)?;
@@ -41,7 +42,7 @@ fn make(row: &Row, emitter: &mut Emitter, sink: &mut WordSink) -> Result<usize, 
     Ok(sink.counts().insts)
 }
 
-fn make_all(rows: &[Row], emitter: &mut Emitter, sink: &mut WordSink) -> Made {
+fn make_all(rows: &[OwnedSheet], emitter: &mut Emitter, sink: &mut WordSink) -> Made {
     let mut made = Made {
         accepted: 0,
         words: 0,
@@ -60,10 +61,10 @@ fn read_and_write(count: u64) -> u64 {
     let mut w = 0u32;
     let mut same = 0u64;
     for _ in 0..count {
-        if let Ok(v) = encode(decode(w)) {
-            if v == w {
-                same = same.wrapping_add(1);
-            }
+        if let Ok(v) = encode(decode(w))
+            && v == w
+        {
+            same = same.wrapping_add(1);
         }
         w = w.wrapping_add(0x9e37_79b1);
     }
@@ -86,13 +87,14 @@ fn said(rt: &impl Eprint, what: &str, count: u64, took: Duration) -> io::Result<
 
 // The k-th argument as a number.
 fn argument(rt: &HostRuntime, k: usize, usual: u64) -> io::Result<u64> {
-    match env::args(rt)?.nth(k) {
-        Some(word) => Ok(number(word.as_bytes()).unwrap_or(usual)),
-        None => Ok(usual),
-    }
+    let word = env::args(rt)?.nth(k);
+    Ok(
+        word.and_then(|word| number(word.as_bytes()))
+            .unwrap_or(usual),
+    )
 }
 
-fn frames(rt: &HostRuntime, rows: &[Row], rounds: u64) -> io::Result<Made> {
+fn frames(rt: &HostRuntime, rows: &[OwnedSheet], rounds: u64) -> io::Result<Made> {
     let mut emitter = Emitter::new();
     let mut sink = WordSink::new(rt.alloc(), ROOM)?;
     let mut made = make_all(rows, &mut emitter, &mut sink);
@@ -107,7 +109,7 @@ fn frames(rt: &HostRuntime, rows: &[Row], rounds: u64) -> io::Result<Made> {
 }
 
 // One function more, looked up and withdrawn again, in books that hold more and more.
-fn books(rt: &HostRuntime, row: &Row, rounds: u64) -> io::Result<u64> {
+fn books(rt: &HostRuntime, row: &OwnedSheet, rounds: u64) -> io::Result<u64> {
     let mut well = 0u64;
     for held in [0u32, 16, 32, 48, 63] {
         let mut book = filled(rt.alloc(), row, held)?;

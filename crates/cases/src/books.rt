@@ -1,6 +1,6 @@
 // Cases of books: as many functions as told, all alike but for their numbers, on a record sink.
+use crate::line::{Miss, next, next32, told, want};
 use book::book::Book;
-use numerals::number;
 use record_sink::RecordSink;
 use refusal::Refusal;
 use sheet::types::{Sheet, Sizes};
@@ -34,9 +34,7 @@ fn last_add(
     length: usize,
 ) -> Result<Option<Result<usize, Refusal>>, AllocError> {
     let words = vec![in heap; 0xD503201F; body]?;
-    let Ok(mut book) = Book::new(heap, RecordSink::new(heap, length)?) else {
-        return Err(AllocError);
-    };
+    let mut book = Book::new(heap, RecordSink::new(heap, length)?)?;
     let mut last = None;
     for k in 0..count {
         last = Some(book.add(bare(k), words.as_slice()));
@@ -44,41 +42,19 @@ fn last_add(
     Ok(last)
 }
 
-fn next32(words: &mut Words<'_>) -> Option<u32> {
-    number::number32(words.next_word()?)
-}
-
-fn same(words: &mut Words<'_>, answer: Result<usize, Refusal>) -> bool {
-    match (words.next_word(), answer) {
-        (Some(b"slot"), Ok(slot)) => match next32(words) {
-            Some(n) => n as usize == slot,
-            None => false,
-        },
-        (Some(b"refused"), Err(r)) => {
-            next32(words) == Some(r.cause.number() as u32)
-                && next32(words) == Some(r.layer.number() as u32)
-                && match next32(words) {
-                    Some(n) => n as u64 == r.place,
-                    None => false,
-                }
-        }
-        _ => false,
+fn same(words: &mut Words<'_>, answer: Result<usize, Refusal>) -> Result<bool, Miss> {
+    match (next(words)?, answer) {
+        (b"slot", Ok(slot)) => Ok(next32(words)? as usize == slot),
+        (b"refused", Err(r)) => Ok(want(words)? == told(r)),
+        _ => Ok(false),
     }
 }
 
 // COUNT functions with BODY words each on a sink of LENGTH: the last add is answered as told.
-pub fn held(heap: Global, words: &mut Words<'_>) -> Result<bool, AllocError> {
-    let Some(count) = next32(words) else {
-        return Ok(false);
-    };
-    let Some(body) = next32(words) else {
-        return Ok(false);
-    };
-    let Some(length) = next32(words) else {
-        return Ok(false);
-    };
-    match last_add(heap, count, body as usize, length as usize)? {
-        Some(answer) => Ok(same(words, answer)),
-        None => Ok(false),
-    }
+pub fn held(heap: Global, words: &mut Words<'_>) -> Result<bool, Miss> {
+    let count = next32(words)?;
+    let body = next32(words)?;
+    let length = next32(words)?;
+    let last = last_add(heap, count, body as usize, length as usize)?;
+    same(words, last.ok_or(Miss::Case)?)
 }

@@ -41,6 +41,7 @@ fn made(heap: Global, line: &str) -> Result<Option<Any>, AllocError> {
     })
 }
 
+// One arm for each type: a sink's prices are types, so that there is no dyn sink.
 fn answer(heap: Global, sink: &mut Option<Any>, line: &str) -> Result<String, AllocError> {
     match sink {
         None => String::from_str(heap, "= no sink"),

@@ -1,7 +1,7 @@
 -- The turns of reading digits, and what the result is.
-use Rattle.std.proofs.Common.{◌≡◌, ℕ, ◌+◌, ◌*◌, ◌^◌, ◌<◌, ◌≤◌, Bool, true, false, cond, eqb, ltb, ◌⊎◌, List, ◌∷◌, length, get_or, drop, IfSome, Some, None, Option, sym, refl, ap, ◌∙◌, subst, inl, inr, ⊎_elim, arith, lit<}
+use Rattle.std.proofs.Common.{◌≡◌, ℕ, ◌+◌, ◌*◌, ◌^◌, ◌<◌, ◌≤◌, Bool, true, false, cond, eqb, ltb, ◌⊎◌, List, ◌∷◌, length, get_or, drop, IfSome, Some, None, Option, refl, subst, arith, lit<}
 use Rattle.std.proofs.lemmas.List.{at_drop_all, at_drop_more}
-use Rattle.std.proofs.lemmas.Bool.{cond-false, cond-true, cond_both, lt-ltb, ltb-true, ltb-false, eq-eqb, ne_eqb}
+use Rattle.std.proofs.lemmas.Bool.{cond-false, cond-true, lt-ltb, ltb-true, ltb-false, eq-eqb, ne_eqb}
 use Rattle.std.specs.Char.{digit_value}
 use Rattle.numerals.specs.declared.number.Base.{Base}
 use Rattle.numerals.specs.declared.number.Base.TheVariants.{Decimal, Hexadecimal}
@@ -13,14 +13,10 @@ positive_radix Decimal = lit< tt
 positive_radix Hexadecimal = lit< tt
 
 some_value : (b d : Bool) (m v : ℕ) → Some m ≡ cond b (cond d (Some v) None) None → (b ≡ true) × (d ≡ true) × (m ≡ v)
-some_value true true m v e = (refl, refl, cc)
-some_value true false m v e = let z : ◌≡◌ {A = ℕ} 0 1 = cc in absurd (omega arith)
-some_value false d m v e = let z : ◌≡◌ {A = ℕ} 0 1 = cc in absurd (omega arith)
+some_value b d m v e = grind arith
 
 no_value : (b d : Bool) (v : ℕ) → None ≡ cond b (cond d (Some v) None) None → (b ≡ false) ⊎ (d ≡ false)
-no_value true true v e = let z : ◌≡◌ {A = ℕ} 0 1 = cc in absurd (omega arith)
-no_value true false v e = inr refl
-no_value false d v e = inl refl
+no_value b d v e = grind arith
 
 filled : (base : ℕ) (s : List ℕ) → 0 < length s → value_in base s ≡ below (2 ^ 64) (value_after base 0 s)
 filled base s h = cond-false (eqb (length s) 0) None (below (2 ^ 64) (value_after base 0 s)) (ne_eqb (length s) 0 (λ e. omega arith))
@@ -40,24 +36,17 @@ module _ (base n i : ℕ) (s : List ℕ) (h : Sofar base n i s) where
       let got : (ltb (digit_value (get_or s i 0)) base ≡ true) × (ltb v (2 ^ 64) ≡ true) × (m ≡ v) = some_value (ltb (digit_value (get_or s i 0)) base) (ltb v (2 ^ 64)) m v e in
       record {
         fits = omega (arith, got.2, ltb-true v (2 ^ 64) got.1);
-        same = ap (λ k. value_after base k (drop (i + 1) s)) got.2 ∙ sym (cond-true (ltb (digit_value (get_or s i 0)) base) (value_after base v (drop (i + 1) s)) None got.0) ∙ sym (next lt) ∙ h.same;
+        same = grind (arith, got.0, got.2, next lt, h.same);
       }
 
   pub too_long : 0 < base → i < length s → None ≡ longer_by base n (get_or s i 0) → None ≡ value_in base s
   too_long pos lt e =
       let v : ℕ = n * base + digit_value (get_or s i 0) in
-      let b : Bool = ltb (digit_value (get_or s i 0)) base in
-      let rest : Option ℕ = value_after base v (drop (i + 1) s) in
-      let none : below (2 ^ 64) (cond b rest None) ≡ None =
-      ⊎_elim
-      (λ no. ap (below (2 ^ 64)) (cond-false b rest None no))
-      (λ big. cond_both b rest None (λ o. below (2 ^ 64) o ≡ None) (λ _. grown base v (drop (i + 1) s) pos (ltb-false v (2 ^ 64) big)) (λ _. refl))
-      (no_value b (ltb v (2 ^ 64)) v e) in
-      sym (filled base s (omega arith) ∙ ap (below (2 ^ 64)) (sym h.same ∙ next lt) ∙ none)
+      let big : 2 ^ 64 ≤ v → below (2 ^ 64) (value_after base v (drop (i + 1) s)) ≡ None = λ h. grown base v (drop (i + 1) s) pos h in
+      grind (arith, big, next lt, h.same, filled base s (omega arith), no_value (ltb (digit_value (get_or s i 0)) base) (ltb v (2 ^ 64)) v e, ltb-false v (2 ^ 64))
 
   pub all_read : 0 < length s → length s ≤ i → Some n ≡ value_in base s
-  all_read some le =
-      sym (filled base s some ∙ ap (below (2 ^ 64)) (sym h.same ∙ at_drop_all (value_after base n) s i le) ∙ cond-true (ltb n (2 ^ 64)) (Some n) None (lt-ltb n (2 ^ 64) h.fits))
+  all_read some le = grind (arith, filled base s some, h.same, at_drop_all (value_after base n) s i le, lt-ltb n (2 ^ 64) h.fits)
 
 fit : (m : ℕ) (o : Option ℕ) → IfSome o (λ v. v < m) → below m o ≡ o
 fit m None h = refl
@@ -72,4 +61,4 @@ pub eight : (s : List ℕ) (g : Option ℕ) → length s ≡ 8 → g ≡ value_i
 eight s g long is =
     let small : IfSome (value_after 16 0 s) (λ v. v < 2 ^ 32) =
     subst (λ k. IfSome (value_after 16 0 s) (λ v. v < 1 * 16 ^ k)) long (short 1 0 s (omega arith)) in
-    ap (below (2 ^ 32)) (is ∙ filled 16 s (omega arith) ∙ fit (2 ^ 64) (value_after 16 0 s) (wider (value_after 16 0 s) small)) ∙ fit (2 ^ 32) (value_after 16 0 s) small ∙ sym (cond-true (eqb (length s) 8) (value_after 16 0 s) None (eq-eqb (length s) 8 long))
+    grind (arith, is, filled 16 s (omega arith), fit (2 ^ 64) (value_after 16 0 s) (wider (value_after 16 0 s) small), fit (2 ^ 32) (value_after 16 0 s) small, eq-eqb (length s) 8 long)

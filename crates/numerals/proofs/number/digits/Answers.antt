@@ -2,10 +2,7 @@ use Rattle.numerals.specs.Numbers.{radix_of}
 use Rattle.std.proofs.lemmas.Bool.{eqb-false}
 use Rattle.numerals.proofs.Written.{one_more, too_long, all_read, positive_radix}
 use Rattle.numerals.proofs.number.digits.Goals as goal
-use Rattle.std.proofs.Common.{sym, refl, arith, lit<}
-
-pub loop-b-init : goal.loop-b-init
-loop-b-init c = record { fits = lit< tt; same = refl }
+use Rattle.std.proofs.Common.{sym, arith}
 
 pub loop-b-preserved : goal.loop-b-preserved
 loop-b-preserved c =

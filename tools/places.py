@@ -42,12 +42,6 @@ LINES = {
         r"\b(kind|first): (u8|u32|usize|bool)\b",
         r"fn (kind_of|place)\(",
     ],
-    3: [
-        r"\bwhile\b",
-        r"\bfor \w+ in \(?0\.\.",
-        r"for \(\w+, \w+\) in .*enumerate\(\)",
-        r"(\+= 1;|saturating_add\(1\)|wrapping_add\(1\))",
-    ],
     4: [
         r"impl\b.*\b(PartialEq|Eq|PartialOrd|Ord|Clone|Copy|Debug) for\b",
         r"fn (is|is_\w*same\w*|is_sp|same|told|number|from_\w+|\w+_from|read_(conv|calls|flags)|key_number|with_key_b)\(",
@@ -77,6 +71,27 @@ def by_lines(point, files):
     return found
 
 
+def counted(files):
+    """Loops that count by hand: `while`, `v[i]` over a range, a loop with no end but `break`, a search that returns its index, a counter."""
+    found = []
+    for name, lines in files:
+        loops = []
+        for n, line in enumerate(lines, 1):
+            indent = len(line) - len(line.lstrip())
+            loops = [i for i in loops if indent > i or not line.strip()]
+            near = " ".join(lines[n : n + 5])
+            m = re.search(r"\bfor (\w+) in \(?[01]\.\.", line)
+            by_index = m and re.search(rf"\[[^\]]*\b{m[1]}\b", near)
+            endless = m and re.search(r"u64::MAX|len\(\) \+ 1", line)
+            search = "enumerate()" in line and re.search(r"return (Some\()?\w\)?;", near)
+            counter = loops and re.search(r"^ *(?!self\.)[\w.]+ (\+= 1;|= [\w.]+\.(saturating|wrapping)_add\(1\);)", line)
+            if re.search(r"^ *while\b", line) or by_index or endless or search or counter:
+                found.append(f"{name}:{n}: {line.strip()}")
+            if re.match(r" *(for|while)\b", line):
+                loops.append(indent)
+    return found
+
+
 def blocks(lines):
     """The bodies of functions, with their names: (name, line, text)."""
     n = 0
@@ -92,21 +107,21 @@ def blocks(lines):
         n += 1
 
 
-def shape(text):
-    """A function without its names, numbers and types."""
+def shape(fn, text):
+    """A function without its own name, and without types, variants, constants, numbers and texts."""
     body = " ".join(l.strip() for l in text if not re.match(r" *(ensures|requires|//)", l))
-    body = re.sub(r'"[^"]*"', "S", body)
+    body = re.sub(r"\b(?:u8|u16|u32|u64|usize|i16|i32|i64)\b", "T", re.sub(r'"[^"]*"', "S", body))
     body = re.sub(r"\b0[xb][0-9a-fA-F_]+\b|\b\d+\b", "N", body)
-    return re.sub(r"\b[A-Za-z_]\w*\b", "w", body)
+    return re.sub(r"\b[A-Z]\w*\b", "T", re.sub(rf"\b{fn}\b", "f", body))
 
 
 def twins(files):
-    """Functions of four lines and more whose shape is another's."""
+    """Functions of five lines and more that differ from another only in types, numbers and texts."""
     by_shape = defaultdict(list)
     for name, lines in files:
         for fn, n, text in blocks(lines):
             if len(text) >= 5:
-                by_shape[shape(text)].append(f"{name}:{n}: {fn}")
+                by_shape[shape(fn, text)].append(f"{name}:{n}: {fn}")
     return [" = ".join(v) for v in by_shape.values() if len(v) > 1]
 
 
@@ -146,6 +161,8 @@ def main():
     for point in points:
         if point == 2:
             found = twins(files)
+        elif point == 3:
+            found = counted(files)
         elif point == 5:
             found = together(files)
         elif point == 8:

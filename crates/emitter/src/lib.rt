@@ -14,7 +14,7 @@ use item_list::ItemList;
 use refusal::Refusal;
 use sink::item::{put_items, put_readable};
 use sink::readable::Readable;
-use sink::sink::Sink;
+use sink::sink::{Priced, Sink};
 
 // The cells in which a part is listed before it is put. One emitter serves for any number of parts.
 #[derive(Drop)]
@@ -33,7 +33,7 @@ impl Emitter {
 
     // A part, whole or not at all.
     fn put<S: Sink>(&mut self, part: Part<'_>, sink: &mut S) -> Result<(), Refusal>
-        ensures { PutPart (record { inst = S.InstPrice.Price.units; note = S.NotePrice.Price.units }) (S.held sink.old) part.entry (S.held sink.new) result }
+        ensures { PutPart ⟦<S as Priced>⟧.prices (S.held sink.old) part.entry (S.held sink.new) result }
     {
         self.list.clear();
         list_part(part, &mut self.list);

@@ -9,7 +9,7 @@ use crate::part::Part;
 use frame::piece::Piece;
 use layout::FrameLayout;
 use refusal::Refusal;
-use sink::sink::Sink;
+use sink::sink::{Priced, Sink};
 
 impl Emitter {
     // The landing pad and the seal, then FP and LR.
@@ -18,7 +18,7 @@ impl Emitter {
         layout: &FrameLayout,
         sink: &mut S,
     ) -> Result<(), Refusal>
-        ensures { PutPiece (record { inst = S.InstPrice.Price.units; note = S.NotePrice.Price.units }) (S.held sink.old) (gen_prologue_frame_setup_of (plain layout.now.sheet)) (S.held sink.new) result }
+        ensures { PutPiece ⟦<S as Priced>⟧.prices (S.held sink.old) (gen_prologue_frame_setup_of (plain layout.now.sheet)) (S.held sink.new) result }
     {
         self.put(Part::Frame(Piece::PrologueFrameSetup, layout), sink)
     }
@@ -29,7 +29,7 @@ impl Emitter {
         layout: &FrameLayout,
         sink: &mut S,
     ) -> Result<(), Refusal>
-        ensures { PutPiece (record { inst = S.InstPrice.Price.units; note = S.NotePrice.Price.units }) (S.held sink.old) (gen_clobber_save_of (plain layout.now.sheet)) (S.held sink.new) result }
+        ensures { PutPiece ⟦<S as Priced>⟧.prices (S.held sink.old) (gen_clobber_save_of (plain layout.now.sheet)) (S.held sink.new) result }
     {
         self.put(Part::Frame(Piece::ClobberSave, layout), sink)
     }
@@ -40,7 +40,7 @@ impl Emitter {
         layout: &FrameLayout,
         sink: &mut S,
     ) -> Result<(), Refusal>
-        ensures { PutPiece (record { inst = S.InstPrice.Price.units; note = S.NotePrice.Price.units }) (S.held sink.old) (code (gen_clobber_restore_of (plain layout.now.sheet))) (S.held sink.new) result }
+        ensures { PutPiece ⟦<S as Priced>⟧.prices (S.held sink.old) (code (gen_clobber_restore_of (plain layout.now.sheet))) (S.held sink.new) result }
     {
         self.put(Part::Frame(Piece::ClobberRestore, layout), sink)
     }
@@ -51,14 +51,14 @@ impl Emitter {
         layout: &FrameLayout,
         sink: &mut S,
     ) -> Result<(), Refusal>
-        ensures { PutPiece (record { inst = S.InstPrice.Price.units; note = S.NotePrice.Price.units }) (S.held sink.old) (code (gen_epilogue_frame_restore_of (plain layout.now.sheet))) (S.held sink.new) result }
+        ensures { PutPiece ⟦<S as Priced>⟧.prices (S.held sink.old) (code (gen_epilogue_frame_restore_of (plain layout.now.sheet))) (S.held sink.new) result }
     {
         self.put(Part::Frame(Piece::EpilogueFrameRestore, layout), sink)
     }
 
     // The return, checked where the address is sealed.
     pub fn gen_return<S: Sink>(&mut self, layout: &FrameLayout, sink: &mut S) -> Result<(), Refusal>
-        ensures { PutPiece (record { inst = S.InstPrice.Price.units; note = S.NotePrice.Price.units }) (S.held sink.old) (code (gen_return_of (plain layout.now.sheet))) (S.held sink.new) result }
+        ensures { PutPiece ⟦<S as Priced>⟧.prices (S.held sink.old) (code (gen_return_of (plain layout.now.sheet))) (S.held sink.new) result }
     {
         self.put(Part::Frame(Piece::Return, layout), sink)
     }
@@ -69,7 +69,7 @@ impl Emitter {
         layout: &FrameLayout,
         sink: &mut S,
     ) -> Result<(), Refusal>
-        ensures { PutPiece (record { inst = S.InstPrice.Price.units; note = S.NotePrice.Price.units }) (S.held sink.old) (prologue (plain layout.now.sheet)) (S.held sink.new) result }
+        ensures { PutPiece ⟦<S as Priced>⟧.prices (S.held sink.old) (prologue (plain layout.now.sheet)) (S.held sink.new) result }
     {
         self.put(Part::Frame(Piece::Prologue, layout), sink)
     }
@@ -80,7 +80,7 @@ impl Emitter {
         layout: &FrameLayout,
         sink: &mut S,
     ) -> Result<(), Refusal>
-        ensures { PutPiece (record { inst = S.InstPrice.Price.units; note = S.NotePrice.Price.units }) (S.held sink.old) (epilogue (plain layout.now.sheet)) (S.held sink.new) result }
+        ensures { PutPiece ⟦<S as Priced>⟧.prices (S.held sink.old) (epilogue (plain layout.now.sheet)) (S.held sink.new) result }
     {
         self.put(Part::Frame(Piece::Epilogue, layout), sink)
     }

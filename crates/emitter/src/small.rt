@@ -10,7 +10,7 @@ use crate::part::Part;
 use a64::imm::Imm12;
 use a64::inst::Reg;
 use refusal::{Cause, Layer, Refusal};
-use sink::sink::Sink;
+use sink::sink::{Priced, Sink};
 
 // The guard is 0, no multiple of 16, or no immediate.
 pub fn is_bad_guard(guard_size: u32) -> bool
@@ -27,14 +27,14 @@ impl Emitter {
         value: u64,
         sink: &mut S,
     ) -> Result<(), Refusal>
-        ensures { PutItems (record { inst = S.InstPrice.Price.units; note = S.NotePrice.Price.units }) (S.held sink.old) (code (load_constant_of rd value)) (S.held sink.new) result }
+        ensures { PutItems ⟦<S as Priced>⟧.prices (S.held sink.old) (code (load_constant_of rd value)) (S.held sink.new) result }
     {
         self.put(Part::Constant(rd, value), sink)
     }
 
     // SP by a signed amount.
     pub fn gen_sp_reg_adjust<S: Sink>(&mut self, amount: i32, sink: &mut S) -> Result<(), Refusal>
-        ensures { PutPiece (record { inst = S.InstPrice.Price.units; note = S.NotePrice.Price.units }) (S.held sink.old) (code (gen_sp_reg_adjust_of amount)) (S.held sink.new) result }
+        ensures { PutPiece ⟦<S as Priced>⟧.prices (S.held sink.old) (code (gen_sp_reg_adjust_of amount)) (S.held sink.new) result }
     {
         self.put(Part::SpBy(amount), sink)
     }
@@ -46,7 +46,7 @@ impl Emitter {
         guard_size: u32,
         sink: &mut S,
     ) -> Result<(), Refusal>
-        ensures { PutProbes (record { inst = S.InstPrice.Price.units; note = S.NotePrice.Price.units }) (S.held sink.old) frame_size guard_size (S.held sink.new) result }
+        ensures { PutProbes ⟦<S as Priced>⟧.prices (S.held sink.old) frame_size guard_size (S.held sink.new) result }
     {
         if is_bad_guard(guard_size) {
             return Err(Refusal {

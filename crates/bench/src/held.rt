@@ -37,7 +37,7 @@ fn turn(book: &mut Book<WordSink>, row: &OwnedSheet) -> Result<bool, Refusal> {
     Ok(found)
 }
 
-// How often that went well.
+// How often that went well. Counted by hand: a chain would take the book by a closure.
 pub fn turns(book: &mut Book<WordSink>, row: &OwnedSheet, rounds: u64) -> u64 {
     let mut well = 0u64;
     for _ in 0..rounds {

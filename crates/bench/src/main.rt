@@ -42,6 +42,7 @@ fn make(row: &OwnedSheet, emitter: &mut Emitter, sink: &mut WordSink) -> Result<
     Ok(sink.counts().insts)
 }
 
+// Two sums in one walk, so counted by hand.
 fn make_all(rows: &[OwnedSheet], emitter: &mut Emitter, sink: &mut WordSink) -> Made {
     let mut made = Made {
         accepted: 0,
@@ -56,7 +57,7 @@ fn make_all(rows: &[OwnedSheet], emitter: &mut Emitter, sink: &mut WordSink) -> 
     made
 }
 
-// Words spread over all of them, read and written again: how many came back.
+// Words spread over all of them, read and written again: how many came back. Counted by hand, beside the next word.
 fn read_and_write(count: u64) -> u64 {
     let mut w = 0u32;
     let mut same = 0u64;

@@ -2,7 +2,7 @@
 ghost use Rattle.std.specs.Prelude.{◌≡◌, ℕ, [], length, MatchResult, OnErr};
 ghost use Rattle.plainbook.specs.Answers.{sheet_refusal};
 ghost use Rattle.plainbook.specs.Claims.{AllClaimed, Shown};
-ghost use Rattle.plainbook.specs.Plain.{fun, grown, meant, plain_add, plain_look_up, plain_withdraw, priced, read_at, why_not, withdrawn};
+ghost use Rattle.plainbook.specs.Plain.{fun, grown, meant, plain_add, plain_look_up, plain_withdraw, read_at, why_not, withdrawn};
 ghost use Rattle.plainbook.specs.Refusals.{said};
 ghost use Rattle.plainbook.specs.Stands.{Moves, Stands, entry_of, fed, plain_entry};
 ghost use Rattle.frame.specs.Pieces.{epilogue as epilogue_of, prologue as prologue_of};
@@ -28,7 +28,7 @@ use shelf::entry::Entry;
 use shelf::shelf::{FUNCTION_COUNT, Shelf};
 use sink::item::Item;
 use sink::price::Price;
-use sink::sink::{Counts, Sink, no_room};
+use sink::sink::{Counts, Priced, Sink, no_room};
 use std::alloc::{AllocFailed, Global};
 
 #[derive(Drop)]
@@ -40,33 +40,33 @@ pub struct Book<S: Sink> {
 impl<S: Sink> Book<S> {
     // The slot of a function number.
     pub fn look_up(&self, number: u32) -> Option<usize>
-        ensures { (k : ℕ) (fs : _) → Stands (priced S.InstPrice.Price.units S.NotePrice.Price.units) k (S.held self.now.sink) (listed self.now.shelf) fs → result ≡ plain_look_up fs number }
+        ensures { (k : ℕ) (fs : _) → Stands ⟦<S as Priced>⟧.prices k (S.held self.now.sink) (listed self.now.shelf) fs → result ≡ plain_look_up fs number }
     {
         self.shelf.slot_of(number)
     }
 
     pub fn inst_at(&self, i: usize) -> Result<Inst, Refusal>
-        ensures { let p = priced S.InstPrice.Price.units S.NotePrice.Price.units in (k : ℕ) (fs : _) → Stands p k (S.held self.now.sink) (listed self.now.shelf) fs → said result ≡ read_at (meant p k fs).insts i }
+        ensures { let p = ⟦<S as Priced>⟧.prices in (k : ℕ) (fs : _) → Stands p k (S.held self.now.sink) (listed self.now.shelf) fs → said result ≡ read_at (meant p k fs).insts i }
     {
         self.sink.inst_at(i)
     }
 
     pub fn note_at(&self, i: usize) -> Result<Note, Refusal>
-        ensures { let p = priced S.InstPrice.Price.units S.NotePrice.Price.units in (k : ℕ) (fs : _) → Stands p k (S.held self.now.sink) (listed self.now.shelf) fs → said result ≡ read_at (meant p k fs).notes i }
+        ensures { let p = ⟦<S as Priced>⟧.prices in (k : ℕ) (fs : _) → Stands p k (S.held self.now.sink) (listed self.now.shelf) fs → said result ≡ read_at (meant p k fs).notes i }
     {
         self.sink.note_at(i)
     }
 
     // How many instructions and notes there are, and the room.
     pub fn counts(&self) -> Counts
-        ensures { let p = priced S.InstPrice.Price.units S.NotePrice.Price.units in (k : ℕ) (fs : _) → Stands p k (S.held self.now.sink) (listed self.now.shelf) fs → result ≡ counts_of (meant p k fs) }
+        ensures { let p = ⟦<S as Priced>⟧.prices in (k : ℕ) (fs : _) → Stands p k (S.held self.now.sink) (listed self.now.shelf) fs → result ≡ counts_of (meant p k fs) }
     {
         self.sink.counts()
     }
 
     // What the function at a slot is listed as.
     pub fn entry_at(&self, slot: usize) -> Option<Entry>
-        ensures { (k : ℕ) (fs : _) → Stands (priced S.InstPrice.Price.units S.NotePrice.Price.units) k (S.held self.now.sink) (listed self.now.shelf) fs → Shown (S.held self.now.sink) (item_at fs slot) result }
+        ensures { (k : ℕ) (fs : _) → Stands ⟦<S as Priced>⟧.prices k (S.held self.now.sink) (listed self.now.shelf) fs → Shown (S.held self.now.sink) (item_at fs slot) result }
     {
         self.shelf.entry_at(slot)
     }
@@ -80,9 +80,9 @@ impl<S: Sink> Book<S> {
 
     // Drops the last function, and answers its number.
     pub fn withdraw(&mut self) -> Result<u32, Refusal>
-        ensures moves { Moves (priced S.InstPrice.Price.units S.NotePrice.Price.units) (S.held self.old.sink) (listed self.old.shelf) (S.held self.new.sink) (listed self.new.shelf) (λ k fs. plain_withdraw fs) (λ k fs. withdrawn fs) (said result) }
+        ensures moves { Moves ⟦<S as Priced>⟧.prices (S.held self.old.sink) (listed self.old.shelf) (S.held self.new.sink) (listed self.new.shelf) (λ k fs. plain_withdraw fs) (λ k fs. withdrawn fs) (said result) }
         ensures refused { OnErr result ((S.held self.new.sink ≡ S.held self.old.sink) × (listed self.new.shelf ≡ listed self.old.shelf)) }
-        ensures claims { (k : ℕ) (fs : _) → Stands (priced S.InstPrice.Price.units S.NotePrice.Price.units) k (S.held self.new.sink) (listed self.new.shelf) fs → AllClaimed (S.held self.new.sink) fs }
+        ensures claims { (k : ℕ) (fs : _) → Stands ⟦<S as Priced>⟧.prices k (S.held self.new.sink) (listed self.new.shelf) fs → AllClaimed (S.held self.new.sink) fs }
     {
         let Some(last) = self.shelf.last() else {
             return Err(refusal(Cause::EmptyBook, 0));
@@ -102,7 +102,7 @@ impl<S: Sink> Book<S> {
     ) -> Result<Entry, Refusal>
         requires prologue_value { prologue.now ≡ prologue_of (plain sheet) }
         requires epilogue_value { epilogue.now ≡ epilogue_of (plain sheet) }
-        ensures { Answers (why_not (priced S.InstPrice.Price.units S.NotePrice.Price.units) (S.held self.now.sink) (numbers_of (listed self.now.shelf)) (fun (plain sheet) body.now)) (λ e. plain_entry e ≡ entry_of (length (S.held self.now.sink).insts) (length (S.held self.now.sink).notes) (fun (plain sheet) body.now)) (Unit {0}) result }
+        ensures { Answers (why_not ⟦<S as Priced>⟧.prices (S.held self.now.sink) (numbers_of (listed self.now.shelf)) (fun (plain sheet) body.now)) (λ e. plain_entry e ≡ entry_of (length (S.held self.now.sink).insts) (length (S.held self.now.sink).notes) (fun (plain sheet) body.now)) (Unit {0}) result }
     {
         if let Some(slot) = self.shelf.slot_of(sheet.number) {
             return Err(refusal(Cause::NumberHeld, slot));
@@ -139,9 +139,9 @@ impl<S: Sink> Book<S> {
 
     // Puts a function's prologue, body words and epilogue, lists it, and answers its slot.
     pub fn add(&mut self, sheet: Sheet<'_>, body: &[u32]) -> Result<usize, Refusal>
-        ensures moves { let p = priced S.InstPrice.Price.units S.NotePrice.Price.units in let f = fun (plain_of sheet.entry) body.now in Moves p (S.held self.old.sink) (listed self.old.shelf) (S.held self.new.sink) (listed self.new.shelf) (λ k fs. plain_add p k fs (sheet_refusal sheet.entry) f) (λ k fs. grown fs f (plain_add p k fs (sheet_refusal sheet.entry) f)) (said result) }
+        ensures moves { let p = ⟦<S as Priced>⟧.prices in let f = fun (plain_of sheet.entry) body.now in Moves p (S.held self.old.sink) (listed self.old.shelf) (S.held self.new.sink) (listed self.new.shelf) (λ k fs. plain_add p k fs (sheet_refusal sheet.entry) f) (λ k fs. grown fs f (plain_add p k fs (sheet_refusal sheet.entry) f)) (said result) }
         ensures refused { OnErr result ((S.held self.new.sink ≡ S.held self.old.sink) × (listed self.new.shelf ≡ listed self.old.shelf)) }
-        ensures claims { (k : ℕ) (fs : _) → Stands (priced S.InstPrice.Price.units S.NotePrice.Price.units) k (S.held self.new.sink) (listed self.new.shelf) fs → AllClaimed (S.held self.new.sink) fs }
+        ensures claims { (k : ℕ) (fs : _) → Stands ⟦<S as Priced>⟧.prices k (S.held self.new.sink) (listed self.new.shelf) fs → AllClaimed (S.held self.new.sink) fs }
     {
         let checked = check(sheet)?;
         let layout = compute_frame_layout(checked);
@@ -164,7 +164,7 @@ impl<S: Sink> Book<S> {
 impl<S: Sink + Drop> Book<S> {
     // A book with nothing in it, over a sink that is rewound to nothing. Want of memory hands the sink back.
     pub fn new(heap: Global, sink: S) -> Result<Book<S>, AllocFailed<S>>
-        ensures { let p = priced S.InstPrice.Price.units S.NotePrice.Price.units in MatchResult result (λ b. Stands p (fed p (S.held sink)) (S.held b.sink) (listed b.shelf) []) (λ e. e.value ≡ sink) }
+        ensures { let p = ⟦<S as Priced>⟧.prices in MatchResult result (λ b. Stands p (fed p (S.held sink)) (S.held b.sink) (listed b.shelf) []) (λ e. e.value ≡ sink) }
     {
         let Ok(shelf) = Shelf::new(heap) else {
             return Err(AllocFailed { value: sink });

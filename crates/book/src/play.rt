@@ -1,20 +1,19 @@
 // A list of calls on a new book, and every answer.
 ghost use Rattle.plainbook.specs.Answers.{after, answer, said_by};
 ghost use Rattle.plainbook.specs.Claims.{Right};
-ghost use Rattle.plainbook.specs.Plain.{priced};
 ghost use Rattle.plainbook.specs.Stands.{Moves};
 ghost use Rattle.shelf.specs.Listed.{listed};
 ghost use Rattle.std.specs.Prelude.{◌≡◌, MatchResult};
 
 use crate::book::Book;
 use plainbook::calls::{Answer, Call};
-use sink::sink::Sink;
+use sink::sink::{Priced, Sink};
 use std::alloc::{AllocFailed, Global};
 
 impl<S: Sink> Book<S> {
     // One call, and its answer.
     fn step(&mut self, call: &Call) -> Answer
-        ensures { let p = priced S.InstPrice.Price.units S.NotePrice.Price.units in Moves p (S.held self.old.sink) (listed self.old.shelf) (S.held self.new.sink) (listed self.new.shelf) (λ k fs. answer p k fs call.now) (λ k fs. after p k fs call.now) (said_by result) }
+        ensures { let p = ⟦<S as Priced>⟧.prices in Moves p (S.held self.old.sink) (listed self.old.shelf) (S.held self.new.sink) (listed self.new.shelf) (λ k fs. answer p k fs call.now) (λ k fs. after p k fs call.now) (said_by result) }
     {
         match call {
             Call::Add(sheet, body) => Answer::Added(self.add(*sheet, body)),
@@ -40,7 +39,7 @@ pub fn play<S: Sink + Drop>(
     sink: S,
     calls: &[Call],
 ) -> Result<Played<S>, AllocFailed<S>>
-    ensures { MatchResult result (λ b. Right (priced S.InstPrice.Price.units S.NotePrice.Price.units) (S.held sink) (S.held b.book.sink) (listed b.book.shelf) calls.now b.answers.items) (λ e. e.value ≡ sink) }
+    ensures { MatchResult result (λ b. Right ⟦<S as Priced>⟧.prices (S.held sink) (S.held b.book.sink) (listed b.book.shelf) calls.now b.answers.items) (λ e. e.value ≡ sink) }
 {
     let Ok(mut answers) = Vec::with_capacity(heap, calls.len()) else {
         return Err(AllocFailed { value: sink });

@@ -1,6 +1,6 @@
 // A function put on a sink.
 ghost use Rattle.std.specs.Prelude.{◌≡◌, ◌≤◌, ◌++◌, MatchResult};
-ghost use Rattle.plainbook.specs.Plain.{body_of, priced};
+ghost use Rattle.plainbook.specs.Plain.{body_of};
 ghost use Rattle.sink.specs.Items.{AllRead, PutPiece, cost_of, with_items};
 
 use codec::decode;
@@ -8,12 +8,12 @@ use refusal::Refusal;
 use sink::item::{Item, put_readable};
 use sink::price::Price;
 use sink::readable::Readable;
-use sink::sink::Sink;
+use sink::sink::{Priced, Sink};
 
 // Puts the reading of each word, where there is room for all.
 fn put_words<S: Sink>(sink: &mut S, words: &[u32]) -> Result<(), Refusal>
-    requires { cost_of (priced S.InstPrice.Price.units S.NotePrice.Price.units) (body_of words.now) ≤ (S.held sink.old).room }
-    ensures { MatchResult result (λ _. S.held sink.new ≡ with_items (priced S.InstPrice.Price.units S.NotePrice.Price.units) (S.held sink.old) (body_of words.now)) (λ _. ⊥) }
+    requires { cost_of ⟦<S as Priced>⟧.prices (body_of words.now) ≤ (S.held sink.old).room }
+    ensures { MatchResult result (λ _. S.held sink.new ≡ with_items ⟦<S as Priced>⟧.prices (S.held sink.old) (body_of words.now)) (λ _. ⊥) }
 {
     for w in words {
         sink.put_inst(decode(*w))?;
@@ -24,7 +24,7 @@ fn put_words<S: Sink>(sink: &mut S, words: &[u32]) -> Result<(), Refusal>
 // Puts items that are readings, whole or not at all.
 fn put_part<S: Sink>(sink: &mut S, items: &[Item]) -> Result<(), Refusal>
     requires { AllRead items.now }
-    ensures { PutPiece (priced S.InstPrice.Price.units S.NotePrice.Price.units) (S.held sink.old) items.now (S.held sink.new) result }
+    ensures { PutPiece ⟦<S as Priced>⟧.prices (S.held sink.old) items.now (S.held sink.new) result }
 {
     put_readable(sink, Readable { items })
 }
@@ -38,8 +38,8 @@ pub(crate) fn put_function<S: Sink>(
 ) -> Result<(), Refusal>
     requires prologue_read { AllRead prologue.now }
     requires epilogue_read { AllRead epilogue.now }
-    requires fits { cost_of (priced S.InstPrice.Price.units S.NotePrice.Price.units) (prologue.now ++ (body_of body.now ++ epilogue.now)) ≤ (S.held sink.old).room }
-    ensures { MatchResult result (λ _. S.held sink.new ≡ with_items (priced S.InstPrice.Price.units S.NotePrice.Price.units) (S.held sink.old) (prologue.now ++ (body_of body.now ++ epilogue.now))) (λ _. ⊥) }
+    requires fits { cost_of ⟦<S as Priced>⟧.prices (prologue.now ++ (body_of body.now ++ epilogue.now)) ≤ (S.held sink.old).room }
+    ensures { MatchResult result (λ _. S.held sink.new ≡ with_items ⟦<S as Priced>⟧.prices (S.held sink.old) (prologue.now ++ (body_of body.now ++ epilogue.now))) (λ _. ⊥) }
 {
     put_part(sink, prologue)?;
     put_words(sink, body)?;

@@ -70,6 +70,7 @@ fn holds(heap: Global, line: &[u8]) -> Result<Option<bool>, AllocError> {
     }
 }
 
+// A line without a case has no number, so cases are counted by hand.
 fn run(heap: Global, out: &mut impl Write, table: &[u8]) -> io::Result<()> {
     let mut count: u64 = 0;
     for line in Lines::new(table) {

@@ -1,4 +1,5 @@
-// The pieces of a laid-out frame, and its whole prologue and epilogue.
+// The pieces of a laid-out frame, and its whole prologue and epilogue. A method each, by the names that the crate has;
+// layout and sink are two parameters, since one layout goes to several sinks.
 ghost use Rattle.frame.specs.Pieces.{epilogue, gen_clobber_restore_of, gen_clobber_save_of, gen_epilogue_frame_restore_of, gen_prologue_frame_setup_of, gen_return_of, prologue};
 ghost use Rattle.item_list.specs.Items.{code};
 ghost use Rattle.sheet.specs.Checks.{plain};

@@ -126,6 +126,7 @@ fn play_on<S: Opens>(heap: Global, length: usize, calls: &[Call]) -> Result<Play
 }
 
 // The answer to a line, the k-th of the calls if it is one; what k is then.
+// Counted by hand: `show` and `asm` play the first k calls again.
 fn line_done(
     heap: Global,
     out: &mut impl Write,

@@ -7,6 +7,7 @@ use std::alloc::Global;
 use text::parts::Parts;
 use text::words::Words;
 
+// A sheet has numbers: a name stands for its place here.
 const CONVENTIONS: [&str; 8] = [
     "Fast",
     "Tail",

@@ -177,11 +177,11 @@ pub entry_is : (s : PlainSheet) (ws : List ℕ) (i n i' n' a b m : ℕ) → i �
     ◌≡◌ {A = PlainEntry} (record { sheet = s; start = i; notes_start = n; prologue = a; body = length ws; epilogue = b; notes = m }) (entry_of i' n' (fun s ws))
 entry_is s ws i n i' n' a b m ie ne ae be me = cc
 
-pushed : (b : Bool) (es es' : List Entry) (e : Entry) → b ≡ ltb (length es) function_count → es' ≡ cond b (es ++ e ∷ []) es → length (numbers_of es) < function_count →
+pushed : (es es' : List Entry) (e : Entry) → es' ≡ cond (ltb (length es) function_count) (es ++ e ∷ []) es → length (numbers_of es) < function_count →
     es' ≡ es ++ e ∷ []
-pushed b es es' e be q lt =
+pushed es es' e q lt =
     let l : length (numbers_of es) ≡ length es = length-map es (λ (x : Entry). x.sheet.number) in
-    q ∙ cond-true b _ _ (be ∙ lt-ltb (length es) function_count (omega arith))
+    q ∙ cond-true _ _ _ (lt-ltb (length es) function_count (omega arith))
 
 -- the answer and the next standing of an add
 abbrev Added : Prices → ℕ → Held → List Entry → List Fun → Sheet → Result ℕ Told → Fun → Type 0
@@ -206,12 +206,12 @@ add_refused_as p r h es fs sh c ws x d e a b s n ce q =
     said_err x d e (λ (y : Result ℕ Told). Added p r h es fs sh y (fun (plain_of sh) ws)) a b
     (subst (λ (t : PlainSheet). Added p r h es fs sh (Err (told e)) (fun t ws)) ce (add_refused p r h es fs sh (fun c ws) e s n q))
 
-pub add_done : (p : Prices) (r : ℕ) (h h' : Held) (es es' : List Entry) (fs : List Fun) (sh : Sheet) (c : PlainSheet) (ws : List ℕ) (e : Entry) (k : ℕ) (b : Bool) (xs ys : List Item) →
+pub add_done : (p : Prices) (r : ℕ) (h h' : Held) (es es' : List Entry) (fs : List Fun) (sh : Sheet) (c : PlainSheet) (ws : List ℕ) (e : Entry) (k : ℕ) (xs ys : List Item) →
     Stands p r h es fs → refused sh ≡ None → c ≡ plain_of sh → Accepted c → why_not p h (numbers_of es) (fun c ws) ≡ None →
     xs ≡ prologue c → ys ≡ epilogue c → h' ≡ with_items p h (xs ++ (body_of ws ++ ys)) →
-    plain_entry e ≡ entry_of (length h.insts) (length h.notes) (fun c ws) → b ≡ ltb (length es) function_count → es' ≡ cond b (es ++ e ∷ []) es → k ≡ length es →
+    plain_entry e ≡ entry_of (length h.insts) (length h.notes) (fun c ws) → es' ≡ cond (ltb (length es) function_count) (es ++ e ∷ []) es → k ≡ length es →
     Added p r h' es' fs sh (Ok k) (fun (plain_of sh) ws)
-add_done p r h h' es es' fs sh c ws e k b xs ys s n ce acc q xe ye hh ee be le ke =
+add_done p r h h' es es' fs sh c ws e k xs ys s n ce acc q xe ye hh ee le ke =
     subst (λ (t : PlainSheet). Added p r h' es' fs sh (Ok k) (fun t ws)) ce
     (added p r h h' es es' fs sh (fun c ws) e k s n q acc (put_by p h h' c ws xs ys xe ye hh) ee
-    (pushed b es es' e be le (none_few p h (numbers_of es) (fun c ws) q)) ke)
+    (pushed es es' e le (none_few p h (numbers_of es) (fun c ws) q)) ke)

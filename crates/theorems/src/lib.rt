@@ -1,4 +1,4 @@
-// What frames owe their callers: theorems, each on the contract of a function.
+// What frames owe their callers: theorems, each on the contract of a function. The functions differ in their contracts alone.
 #![tactic(auto)]
 
 ghost use Rattle.returns.specs.Example.{RulesKept, ThreeDeep};

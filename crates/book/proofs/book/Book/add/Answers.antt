@@ -43,10 +43,10 @@ returns-clause-moves g c =
     let k = c.in_ok-checked.ensures in
     let e = c.in_ok-entry.ensures in
     λ r fs s.
-    add_done (priced g.S.InstPrice.Price.units g.S.NotePrice.Price.units) r (g.S.Sink.held c.args.self.now.sink) _ _ _ fs c.args.sheet (plain c.in_ok-checked.checked) c.args.body.now c.in_ok-entry.entry c.len-slot.result c.push.result _ _
+    add_done (priced g.S.InstPrice.Price.units g.S.NotePrice.Price.units) r (g.S.Sink.held c.args.self.now.sink) _ _ _ fs c.args.sheet (plain c.in_ok-checked.checked) c.args.body.now c.in_ok-entry.entry c.len-slot.result _ _
     s k.0 k.1.0 k.1.1 e.0
     (a ∙ ap (λ (x : CheckedSheet). prologue (plain x)) same) (b ∙ ap (λ (x : CheckedSheet). epilogue (plain x)) same)
-    c.in_ok-put_function.ensures e.1 c.push.ensures.answer c.push.ensures.list c.len-slot.ensures
+    c.in_ok-put_function.ensures e.1 c.push.ensures.list c.len-slot.ensures
 
 pub returns-clause-claims : goal.returns-clause-claims
 returns-clause-claims g c = λ k fs s. claimed (priced g.S.InstPrice.Price.units g.S.NotePrice.Price.units) k _ _ fs s

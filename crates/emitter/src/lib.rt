@@ -7,7 +7,7 @@ ghost use Rattle.std.specs.Prelude.{[], ◌≡◌};
 
 mod part;
 mod pieces;
-pub mod small;
+mod small;
 
 use crate::part::{Part, list_part};
 use item_list::ItemList;

@@ -1,23 +1,15 @@
 // The pieces that need no layout.
-ghost use Rattle.emitter.specs.Put.{PutProbes, bad_guard_of};
+ghost use Rattle.emitter.specs.Put.{PutProbes};
 ghost use Rattle.item_list.specs.Items.{code};
 ghost use Rattle.steps.specs.Adjust.{gen_sp_reg_adjust_of, load_constant_of};
 ghost use Rattle.sink.specs.Items.{PutItems, PutPiece};
-ghost use Rattle.std.specs.Prelude.{◌≡◌};
 
 use crate::Emitter;
 use crate::part::Part;
-use a64::imm::Imm12;
 use a64::inst::Reg;
 use refusal::{Cause, Layer, Refusal};
+use sheet::check::is_bad_guard;
 use sink::sink::{Priced, Sink};
-
-// The guard is 0, no multiple of 16, or no immediate.
-pub fn is_bad_guard(guard_size: u32) -> bool
-    ensures { result ≡ bad_guard_of guard_size }
-{
-    guard_size == 0 || guard_size % 16 != 0 || Imm12::maybe_from_u64(guard_size as u64).is_none()
-}
 
 impl Emitter {
     // A 64-bit constant in a register.

@@ -45,9 +45,13 @@ bad_tail_of c z = nat_lt z.tail z.incoming || (not (same c Tail) && not (z.tail 
 abbrev pub winch_seal_of : CallConv → Flags → Sizes → Bool → Bool
 winch_seal_of c f z setup = same c Winch && (nat_lt 0 z.incoming && is_some (key_of f c setup))
 
--- Probes are on, and the guard is 0, no multiple of 16, or no immediate.
+-- The guard is 0, no multiple of 16, or no immediate.
+abbrev pub unfit_guard : ℕ → Bool
+unfit_guard g = g == 0 || (uneven g || not (is_some (imm12_of g)))
+
+-- Probes are on, and the guard cannot serve them.
 abbrev pub bad_guard_of : Flags → Sizes → Bool
-bad_guard_of f z = f.inline_probes && (z.guard == 0 || (uneven z.guard || not (is_some (imm12_of z.guard))))
+bad_guard_of f z = f.inline_probes && unfit_guard z.guard
 
 -- The rows behind the codes.
 abbrev pub late_rows : CallConv → Flags → Sizes → Bool → List Row

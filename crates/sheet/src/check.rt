@@ -5,7 +5,7 @@ ghost use Rattle.codes.specs.Items.{items};
 ghost use Rattle.sheet.specs.Accepted.{Accepted};
 ghost use Rattle.sheet.specs.Checks.{plain, plain_read};
 ghost use Rattle.sheet.specs.Plain.{plain_of};
-ghost use Rattle.sheet.specs.Refused.{uneven, range_rows, bad_sizes_of, bad_tail_of, winch_seal_of, bad_guard_of, late_rows, plain_rows, refused};
+ghost use Rattle.sheet.specs.Refused.{uneven, range_rows, bad_sizes_of, bad_tail_of, winch_seal_of, bad_guard_of, unfit_guard, late_rows, plain_rows, refused};
 ghost use Rattle.sheet.specs.Saved.{pairs};
 
 use crate::checked::CheckedSheet;
@@ -33,6 +33,13 @@ fn is_uneven(n: u32) -> bool
     ensures { result ≡ uneven n }
 {
     n % 16 != 0
+}
+
+// The guard is 0, no multiple of 16, or no immediate.
+pub fn is_bad_guard(guard: u32) -> bool
+    ensures { result ≡ unfit_guard guard }
+{
+    guard == 0 || is_uneven(guard) || Imm12::maybe_from_u64(guard as u64).is_none()
 }
 
 impl ReadSheet<'_> {
@@ -65,13 +72,11 @@ impl ReadSheet<'_> {
             && select_api_key(self.flags, self.call_conv, true).is_some()
     }
 
-    // Probes are on, and the guard is 0, no multiple of 16, or no immediate.
+    // Probes are on, and the guard cannot serve them.
     fn bad_guard(&self) -> bool
         ensures { result ≡ bad_guard_of self.now.flags self.now.sizes }
     {
-        let guard = self.sizes.guard;
-        self.flags.inline_probes
-            && (guard == 0 || is_uneven(guard) || Imm12::maybe_from_u64(guard as u64).is_none())
+        self.flags.inline_probes && is_bad_guard(self.sizes.guard)
     }
 
     // The rows behind the codes.

@@ -13,7 +13,7 @@ pub struct Saved {
 }
 
 impl Saved {
-    // A code is N for xN and 64 + N for vN.
+    // A code is N for xN and 64 + N for vN. No `From`: the code's class is dropped.
     pub(crate) fn of(code: u8) -> Saved
         ensures { result.number ≡ code % 64 }
     {

@@ -39,18 +39,18 @@ LINES = {
         r"fn (push|insert)\b.*-> bool",
         r"Option<\(",
         r"-> \(?\w*\(?usize, usize, usize\)|Result<\(\w+, \w+, \w+\)",
-        r"\b(kind|first): (u8|u32|usize|bool)\b",
-        r"fn (kind_of|place)\(",
+        r"^ *pub kind: u32|fn \w+\(kind: u32|^ *kind: usize|\((heap: Global, )?at: u32|\(first: bool|\bat: u32, words\b",
+        r"fn kind_of\(|fn place\(names",
     ],
     4: [
         r"impl\b.*\b(PartialEq|Eq|PartialOrd|Ord|Clone|Copy|Debug) for\b",
-        r"fn (is|is_\w*same\w*|is_sp|same|told|number|from_\w+|\w+_from|read_(conv|calls|flags)|key_number|with_key_b)\(",
+        r"fn (is|is_\w*same\w*|is_sp|same|told|number|from_\w+|(inst|note)_from|read_(conv|calls|flags)|key_number|with_key_b)\((self|&self|key|modifier|n: u32|r: Refusal|words|sheet|kind|first|\*)",
         r"fn (of|code|parts|words)\((self|code: u8)\)",
     ],
     6: [
         r"^    (pub(\(crate\))? )?(count|top|len): usize,$",
-        r"\b(count|n): usize,?( |\)|$)",
-        r"fn slot_in\(",
+        r"\[T\], (count|n): usize|^    count: usize,$",
+        r"if k\.number > number",
     ],
     7: [
         r"match (k|at|kind|k [/%] \d) \{",
@@ -126,7 +126,10 @@ def twins(files):
 
 
 def together(files):
-    """Clauses and pairs of parameters that stand in three or more functions of a crate."""
+    """Clauses and pairs of parameters that stand in three or more functions of a crate.
+
+    A writer and the allocator are passed beside everything, as the library does: they make no pair.
+    """
     clauses, pairs = Counter(), Counter()
     for name, lines in files:
         crate = name.split("/")[1]
@@ -136,7 +139,7 @@ def together(files):
                 if m:
                     clauses[crate, re.sub(r"^\w+ \{", "{", m.group(1))] += 1
             head = " ".join(l.strip() for l in text).split("{")[0].split("ensures")[0].split("requires")[0]
-            names = sorted(set(re.findall(r"\b([a-z]\w*): [&A-Z\[u]", head)))
+            names = sorted(set(re.findall(r"\b([a-z]\w*): [&A-Z\[u]", head)) - {"f", "out", "heap", "rt"})
             for i, a in enumerate(names):
                 for b in names[i + 1 :]:
                     pairs[crate, f"({a}, {b})"] += 1

@@ -1,4 +1,5 @@
 // Instructions as an assembler takes them. `llvm-mc` gives back the same word.
+// A printer's parameters are the fields of its form's case.
 #![tactic(auto)]
 
 use a64::imm::{Imm12, MoveWideConst};

@@ -10,7 +10,7 @@ use sink::item::Item;
 // No book holds more instructions, nor more notes.
 pub(crate) const ITEM_LIMIT: usize = 65535;
 
-// A refusal of a book.
+// A refusal of a book. Each layer has such a function of its own: the struct alone would be as long.
 pub(crate) fn refusal(cause: Cause, place: usize) -> Refusal
     ensures { told result ≡ record { number = number cause; layer = 3; place = place } }
 {

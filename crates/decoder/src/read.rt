@@ -1,4 +1,5 @@
 // The reader: by bits 31 to 24 to one small reader for each class of instructions.
+// A reader's parameters are what those bits say, and the word.
 ghost use Rattle.std.specs.Prelude.{◌≡◌, ◌<◌};
 ghost use Rattle.decoder.specs.Reading.{add_sub_ext_of, add_sub_imm_of, adds_shifted_of, branch, dir_of, field_of, hint, indexed, key_of, ldr_reg_of, ldr_u_imm, load_x_of, mov_wide_of, pair, pair_post_of, pair_pre_of, reading, reg_of, ret, single, store_w_of};
 

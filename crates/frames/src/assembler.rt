@@ -111,8 +111,8 @@ fn directives_at<S: Sink>(
     before: Cfa,
 ) -> io::Result<Cfa> {
     let mut cfa = before;
-    for k in 0..e.notes {
-        if let Ok(note) = book.note_at(e.notes_start.saturating_add(k))
+    for at in e.notes_start..e.notes_start.saturating_add(e.notes) {
+        if let Ok(note) = book.note_at(at)
             && note.place as usize == place
         {
             cfa = cfa.after(note.inst);
@@ -126,8 +126,7 @@ fn directives_at<S: Sink>(
 fn code<S: Sink>(out: &mut impl Write, book: &Book<S>, e: &Entry) -> io::Result<()> {
     let count = e.prologue.saturating_add(e.body).saturating_add(e.epilogue);
     let mut cfa = Cfa::BySp(0);
-    for k in 0..count {
-        let place = e.start.saturating_add(k);
+    for place in e.start..e.start.saturating_add(count) {
         cfa = directives_at(out, book, e, place, cfa)?;
         if let Ok(i) = book.inst_at(place) {
             let text = Asm(i);

@@ -10,15 +10,14 @@ use shelf::shelf::FUNCTION_COUNT;
 use sink::sink::{Counts, Sink};
 use std::io;
 use std::io::Write;
+use std::ops::Range;
 
 fn show_insts<S: Sink>(
     out: &mut impl Write,
     book: &Book<S>,
-    from: usize,
-    count: usize,
+    places: Range<usize>,
 ) -> io::Result<()> {
-    for k in 0..count {
-        let at = from.saturating_add(k);
+    for at in places {
         if let Ok(i) = book.inst_at(at)
             && let Ok(w) = encode(i)
         {
@@ -32,11 +31,10 @@ fn show_insts<S: Sink>(
 fn show_notes<S: Sink>(
     out: &mut impl Write,
     book: &Book<S>,
-    from: usize,
-    count: usize,
+    places: Range<usize>,
 ) -> io::Result<()> {
-    for k in 0..count {
-        if let Ok(note) = book.note_at(from.saturating_add(k)) {
+    for at in places {
+        if let Ok(note) = book.note_at(at) {
             write_note(out, note)?;
         }
     }
@@ -61,8 +59,12 @@ fn show_function<S: Sink>(
     write!(out, "frame ")?;
     picture(out, &compute_frame_layout(e.sheet))?;
     let whole = prologue.saturating_add(body).saturating_add(epilogue);
-    show_insts(out, book, e.start, whole)?;
-    show_notes(out, book, e.notes_start, notes)
+    show_insts(out, book, e.start..e.start.saturating_add(whole))?;
+    show_notes(
+        out,
+        book,
+        e.notes_start..e.notes_start.saturating_add(notes),
+    )
 }
 
 pub fn show<S: Sink>(out: &mut impl Write, book: &Book<S>) -> io::Result<()> {

@@ -6,6 +6,7 @@ ghost use Rattle.std.proofs.Common.{rules};
 
 use a64::inst::Key;
 
+// A modifier is a number here, so key and modifier make no `ApiKey`.
 pub trait Core {
     // What the core means: seal, check, and whether it has checked returns.
     ghost meaning: { Self → CoreMeaning };
@@ -71,6 +72,7 @@ impl Core for SealingCore {
     }
 }
 
+// The key as a number as wide as the seal.
 fn key_number(key: Key) -> u64
     ensures { result ≡ key_number_of key }
 {

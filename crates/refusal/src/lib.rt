@@ -91,7 +91,7 @@ impl Cause {
 }
 
 impl Layer {
-    // 1 for sheets, 2 for words and sinks, 3 for books.
+    // 1 for sheets, 2 for words and sinks, 3 for books. A method for each enum: each has a definition of its own.
     pub fn number(self) -> u8
         ensures { result ≡ layer_number self }
     {

@@ -19,7 +19,7 @@ pub struct Counts {
     pub room: usize,
 }
 
-// The refusal of a price above the room.
+// Two refusals, as each is another definition. The refusal of a price above the room.
 pub fn no_room(room: usize) -> Refusal
     ensures { told result ≡ no_room_of room }
 {

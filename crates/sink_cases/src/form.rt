@@ -48,7 +48,7 @@ fn mov_wide(op: MoveWideOp, line: &str) -> Inst {
     }
 }
 
-// A pair of registers stored or loaded.
+// A pair of registers stored or loaded. A function for each form, as each has other fields.
 fn pair(form: &str, line: &str) -> Option<Inst> {
     let (dir, class, mode) = match form {
         "STPX_PRE" => (Dir::Store, PairClass::X, PairMode::Pre),

@@ -28,6 +28,7 @@ use shelf::entry::Entry;
 use shelf::shelf::{FUNCTION_COUNT, Shelf};
 use sink::item::Item;
 use sink::price::Price;
+use sink::readable::Readable;
 use sink::sink::{Counts, Priced, Sink, no_room};
 use std::alloc::{AllocFailed, Global};
 
@@ -151,9 +152,13 @@ impl<S: Sink> Book<S> {
         let slot = self.shelf.len();
         put_function(
             &mut self.sink,
-            prologue.as_slice(),
+            Readable {
+                items: prologue.as_slice(),
+            },
             body,
-            epilogue.as_slice(),
+            Readable {
+                items: epilogue.as_slice(),
+            },
         )?;
         // There is a place for it: fewer than FUNCTION_COUNT are listed.
         let _ = self.shelf.push(entry);

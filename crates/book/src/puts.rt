@@ -1,11 +1,11 @@
 // A function put on a sink.
 ghost use Rattle.std.specs.Prelude.{◌≡◌, ◌≤◌, ◌++◌, MatchResult};
 ghost use Rattle.plainbook.specs.Plain.{body_of};
-ghost use Rattle.sink.specs.Items.{AllRead, PutPiece, cost_of, with_items};
+ghost use Rattle.sink.specs.Items.{cost_of, with_items};
 
 use codec::decode;
 use refusal::Refusal;
-use sink::item::{Item, put_readable};
+use sink::item::put_readable;
 use sink::price::Price;
 use sink::readable::Readable;
 use sink::sink::{Priced, Sink};
@@ -21,28 +21,18 @@ fn put_words<S: Sink>(sink: &mut S, words: &[u32]) -> Result<(), Refusal>
     Ok(())
 }
 
-// Puts items that are readings, whole or not at all.
-fn put_part<S: Sink>(sink: &mut S, items: &[Item]) -> Result<(), Refusal>
-    requires { AllRead items.now }
-    ensures { PutPiece ⟦<S as Priced>⟧.prices (S.held sink.old) items.now (S.held sink.new) result }
-{
-    put_readable(sink, Readable { items })
-}
-
 // Puts a prologue, body words and an epilogue, where there is room for all.
 pub(crate) fn put_function<S: Sink>(
     sink: &mut S,
-    prologue: &[Item],
+    prologue: Readable<'_>,
     body: &[u32],
-    epilogue: &[Item],
+    epilogue: Readable<'_>,
 ) -> Result<(), Refusal>
-    requires prologue_read { AllRead prologue.now }
-    requires epilogue_read { AllRead epilogue.now }
-    requires fits { cost_of ⟦<S as Priced>⟧.prices (prologue.now ++ (body_of body.now ++ epilogue.now)) ≤ (S.held sink.old).room }
-    ensures { MatchResult result (λ _. S.held sink.new ≡ with_items ⟦<S as Priced>⟧.prices (S.held sink.old) (prologue.now ++ (body_of body.now ++ epilogue.now))) (λ _. ⊥) }
+    requires { cost_of ⟦<S as Priced>⟧.prices (prologue.items.now ++ (body_of body.now ++ epilogue.items.now)) ≤ (S.held sink.old).room }
+    ensures { MatchResult result (λ _. S.held sink.new ≡ with_items ⟦<S as Priced>⟧.prices (S.held sink.old) (prologue.entry.items.now ++ (body_of body.now ++ epilogue.entry.items.now))) (λ _. ⊥) }
 {
-    put_part(sink, prologue)?;
+    put_readable(sink, prologue)?;
     put_words(sink, body)?;
-    put_part(sink, epilogue)?;
+    put_readable(sink, epilogue)?;
     Ok(())
 }

@@ -1,4 +1,4 @@
-// What an emitter lists and then puts.
+// What an emitter lists and then puts. An enum, since the contract of `put` names the part.
 ghost use Rattle.emitter.specs.Parts.{part_of};
 ghost use Rattle.item_list.specs.Lists.{Puts};
 ghost use Rattle.std.specs.Prelude.{◌≡◌};

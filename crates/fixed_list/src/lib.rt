@@ -16,7 +16,7 @@ pub struct FixedList<T, const N: usize> {
     ghost full: { length cells ≡ N },
 }
 
-// By hand: a generic struct with ghost fields can't derive them.
+// By hand: a derive is refused over ghost fields of a struct with a type parameter.
 impl<T: Copy, const N: usize> Clone for FixedList<T, N> {
     ghost is_clone = { λ v w. w ≡ v };
 

@@ -9,7 +9,7 @@ use crate::opening::{clobber_save, list_prologue, prologue_frame_setup};
 use item_list::ItemList;
 use layout::FrameLayout;
 
-// A part of a frame that can be put by itself, and the two wholes.
+// A part of a frame that can be put by itself, and the two wholes. An enum, since contracts name a piece.
 #[derive(Clone, Copy)]
 pub enum Piece {
     PrologueFrameSetup,

@@ -26,7 +26,7 @@ impl<const N: u32> Price for Units<N> {
     }
 }
 
-// A price that can be named by its type alone.
+// A price that can be named by its type alone. One impl for each price in use: for any N there would have to be a bound on N.
 pub trait Fixed: Price + Sized {
     const VALUE: Self;
 }

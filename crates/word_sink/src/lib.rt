@@ -1,4 +1,5 @@
 // The word sink: cells of its own, code words from the front and notes of three words from the back.
+// Two counts beside the cells, since both ends grow.
 #![tactic(auto)]
 
 ghost use Rattle.std.specs.Prelude.{◌+◌, ◌*◌, ◌≤◌, vec_len};

@@ -1,4 +1,4 @@
-// Each constructor gives an operand exactly where the number can stand in a word.
+// Each constructor gives an operand exactly where the number can stand in a word. The names are cranelift's.
 ghost use Rattle.a64.specs.Operands.{imm12_of, imm12_value, simm7_of, simm9_of, uimm12_of};
 ghost use Rattle.std.specs.Prelude.{◌≡◌};
 

@@ -36,7 +36,7 @@ impl Saved {
     }
 }
 
-// The class of one register of a pair.
+// The class of one register of a pair. No `From`: both types are another crate's.
 pub(crate) fn class_of(class: PairClass) -> Class
     ensures { result ≡ class_of class }
 {

@@ -25,7 +25,7 @@ fn slot_in(keys: &[Key], number: u32) -> Option<usize>
     }
 }
 
-// Puts a key in its place, where there is memory for it.
+// Puts a key in its place, where there is memory for it. By the one insertion that keeps every list in order.
 fn insert_key(keys: &mut Vec<Key>, x: Key)
     requires { vec_len keys.old < vec_capacity keys.old }
     ensures items { keys.new.items ≡ insert_key_of keys.old.items x }

@@ -1,12 +1,9 @@
 use Rattle.numerals.specs.Numbers.{radix_of}
 use Rattle.std.proofs.lemmas.Bool.{eqb-false}
-use Rattle.numerals.proofs.Written.{one_more, too_long, all_read, positive_radix}
+use Rattle.numerals.proofs.Written.{too_long, all_read, positive_radix}
 use Rattle.numerals.proofs.number.digits.Goals as goal
 use Rattle.std.proofs.Common.{sym, arith}
 
-pub loop-b-preserved : goal.loop-b-preserved
-loop-b-preserved c =
-    one_more (radix_of c.args.base) c.loop-b.n c.loop-b.b-index c.args.s.now c.loop-b.invariant _ (omega arith) c.in_ok-n.ensures
 
 pub returns-in_err-n : goal.returns-in_err-n
 returns-in_err-n c =

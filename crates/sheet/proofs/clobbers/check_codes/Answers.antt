@@ -1,17 +1,11 @@
-use Rattle.std.proofs.Common.{ℕ, ◌<◌, Bool, cond, List, [], ◌∷◌, ◌++◌, length, get_or, Some, sym, refl, ap, ◌∙◌, arith, rules}
+use Rattle.std.proofs.Common.{ℕ, ◌<◌, Bool, cond, List, [], ◌∷◌, ◌++◌, length, get_or, sym, refl, ap, ◌∙◌, arith, rules}
 use Rattle.std.proofs.lemmas.List.{take_more, take_all, length-take}
 use Rattle.std.proofs.lemmas.Bool.{lt-ltb}
-use Rattle.refusal.specs.Told.{told}
 use Rattle.codes.specs.Items.{items}
-use Rattle.sheet.proofs.CodeSteps.{allowed_coded, kept_bad, kept_twice, kept_fits, kept_more, kept_all}
+use Rattle.sheet.proofs.CodeSteps.{allowed_coded, kept_fits, kept_more, kept_all}
 use Rattle.sheet.proofs.clobbers.check_codes.Goals as goal
 
-pub returns-then-not-is_allowed : goal.returns-then-not-is_allowed
-returns-then-not-is_allowed c = (kept_bad _ _ _ _ _ c.loop-i.invariant.0 (omega arith) refl (search rules) ∙ ap (λ r. Some (told r)) (sym c.refusal_at.ensures), tt)
 
-pub returns-then-has : goal.returns-then-has
-returns-then-has c =
-    (kept_twice _ _ _ _ _ c.loop-i.invariant.0 (omega arith) refl (search rules) (search rules) ∙ ap (λ r. Some (told r)) (sym c.refusal_at-then-has.ensures), tt)
 
 pub loop-i-preserved : goal.loop-i-preserved
 loop-i-preserved c =

@@ -1,6 +1,6 @@
 use Rattle.std.proofs.Common.{sym, arith}
-use Rattle.std.proofs.lemmas.Bool.{le-leb, lt-leb}
-use Rattle.sink.proofs.Items.{cost_rest_inst, cost_rest_note, cost_rest_none}
+use Rattle.std.proofs.lemmas.Bool.{lt-leb}
+use Rattle.sink.proofs.Items.{cost_rest_inst, cost_rest_note}
 use Rattle.sink.proofs.item.affordable.Goals as goal
 use Rattle.sink.proofs.item.affordable.Goals.{in-Inst, in-Note}
 
@@ -28,9 +28,3 @@ loop-item-preserved c =
           let n = cost_rest_note (record { inst = c.args.inst; note = c.args.note }) c.args.items.now c.loop-item.item-index _ _ c.loop-item-test.true w.in-Note.is in
           omega (arith, w.price-is)
     ]
-
-pub returns : goal.returns
-returns c =
-    let i = c.loop-item.invariant in
-    let n = cost_rest_none (record { inst = c.args.inst; note = c.args.note }) c.args.items.now c.loop-item.item-index c.loop-item-test.false in
-    sym (le-leb _ _ (omega arith))

@@ -1,7 +1,7 @@
 use Rattle.std.proofs.Common.{ap, ◌∙◌, arith}
 use mathlib.Core.Logic.{∥∥₁_elim}
 use mathlib.Core.HLevel.{⊥_prop}
-use Rattle.sink.proofs.Items.{read_at, not_refused, inst_fits, note_fits, inst_put, note_put, all_put}
+use Rattle.sink.proofs.Items.{read_at, not_refused, inst_fits, note_fits, inst_put, note_put}
 use Rattle.sink.specs.Held.{Prices}
 use Rattle.sink.proofs.item.put_all.Goals as goal
 use Rattle.sink.proofs.item.put_all.Goals.{in-Inst+in_ok-put_inst-in-Inst, in-Note+in_ok-put_note-in-Note}
@@ -28,7 +28,3 @@ loop-item-preserved g c =
       | in-Note+in_ok-put_note-in-Note w ↦
           ap g.S.Sink.held w.sink-is ∙ note_put p _ _ _ c.args.items.now c.loop-item.item-index _ w.in-Note.x c.loop-item-test.true w.in-Note.is c.loop-item.invariant w.in_ok-put_note-in-Note.ensures.1
     ]
-
-pub returns : goal.returns
-returns g c =
-    all_put (record { inst = g.S.InstPrice.Price.units; note = g.S.NotePrice.Price.units }) _ _ c.args.items.now c.loop-item.item-index c.loop-item-test.false c.loop-item.invariant

@@ -1,11 +1,9 @@
 use Rattle.item_list.specs.Items.{code}
 use Rattle.item_list.specs.Lists.{listed, joined}
 use Rattle.steps.specs.Probes.{probe_each}
-use Rattle.steps.proofs.Probing.{probe_put, probes_done, from_start}
+use Rattle.steps.proofs.Probing.{probe_put, probes_done}
 use Rattle.steps.proofs.probes.gen_probestack_unroll.Goals as goal
 
-pub loop-init : goal.loop-init
-loop-init c = from_start (listed c.args.list.now) c.args.guard_size c.args.probe_count
 
 pub loop-preserved : goal.loop-preserved
 loop-preserved c =

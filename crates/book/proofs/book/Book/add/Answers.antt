@@ -26,8 +26,8 @@ returns-in_err-entry-clause-moves g c =
 pub returns-in_err-entry-clause-claims : goal.returns-in_err-entry-clause-claims
 returns-in_err-entry-clause-claims g c = λ k fs s. claimed (priced g.S.InstPrice.Price.units g.S.NotePrice.Price.units) k _ _ fs s
 
-pub put_function-requires-clause-fits : goal.put_function-requires-clause-fits
-put_function-requires-clause-fits g c =
+pub put_function-requires : goal.put_function-requires
+put_function-requires g c =
     let same = c.compute_frame_layout-layout.ensures.sheet in
     let a = c.as_slice-3.ensures ∙ c.items_of-prologue.ensures.items in
     let b = c.as_slice-4.ensures ∙ c.items_of-epilogue.ensures.items in

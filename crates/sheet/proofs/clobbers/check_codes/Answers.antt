@@ -5,8 +5,6 @@ use Rattle.codes.specs.Items.{items}
 use Rattle.sheet.proofs.CodeSteps.{allowed_coded, kept_fits, kept_more, kept_all}
 use Rattle.sheet.proofs.clobbers.check_codes.Goals as goal
 
-
-
 pub loop-i-preserved : goal.loop-i-preserved
 loop-i-preserved c =
     let code : ℕ = get_or c.args.codes.now c.loop-i.i 0 in

@@ -4,7 +4,6 @@ use Rattle.steps.specs.Probes.{probe_each}
 use Rattle.steps.proofs.Probing.{probe_put, probes_done}
 use Rattle.steps.proofs.probes.gen_probestack_unroll.Goals as goal
 
-
 pub loop-preserved : goal.loop-preserved
 loop-preserved c =
     probe_put c.loop.list c.sp_by.new.list c.inst.new.self (joined (listed c.args.list.now) (code (probe_each c.args.guard_size c.args.probe_count)))

@@ -1,10 +1,6 @@
 use Rattle.std.proofs.Common.{vec_items, rules}
-use Rattle.shelf.proofs.Items.{cut_none}
 use Rattle.shelf.proofs.Keys.{keys_cut}
 use Rattle.shelf.proofs.shelf.Shelf.cut_last.Goals as goal
-
-pub returns-then-n-eq0 : goal.returns-then-n-eq0
-returns-then-n-eq0 c = cut_none (vec_items c.args.self.now.entries) (search rules)
 
 pub invariant_of-self : goal.invariant_of-self
 invariant_of-self c = record {

@@ -57,31 +57,37 @@ impl fmt::Display for Address {
     }
 }
 
+// A number, shifted to the left where the shift is not 0.
 #[derive(Clone, Copy)]
-struct Number(Imm12);
+struct Shifted {
+    bits: u16,
+    shift: u32,
+}
 
-impl fmt::Display for Number {
+impl fmt::Display for Shifted {
     fn fmt<W: fmt::Write>(&self, f: &mut fmt::Formatter<W>) -> fmt::Result {
-        let bits = self.0.bits;
-        if self.0.shift12 {
-            write!(f, "#{bits}, lsl #12")
-        } else {
-            write!(f, "#{bits}")
+        let bits = self.bits;
+        match self.shift {
+            0 => write!(f, "#{bits}"),
+            shift => write!(f, "#{bits}, lsl #{shift}"),
         }
     }
 }
 
-#[derive(Clone, Copy)]
-struct Part(MoveWideConst);
+impl From<Imm12> for Shifted {
+    fn from(imm: Imm12) -> Shifted {
+        Shifted {
+            bits: imm.bits,
+            shift: if imm.shift12 { 12 } else { 0 },
+        }
+    }
+}
 
-impl fmt::Display for Part {
-    fn fmt<W: fmt::Write>(&self, f: &mut fmt::Formatter<W>) -> fmt::Result {
-        let bits = self.0.bits;
-        let shift = self.0.shift as u32 * 16;
-        if shift == 0 {
-            write!(f, "#{bits}")
-        } else {
-            write!(f, "#{bits}, lsl #{shift}")
+impl From<MoveWideConst> for Shifted {
+    fn from(imm: MoveWideConst) -> Shifted {
+        Shifted {
+            bits: imm.bits,
+            shift: imm.shift as u32 * 16,
         }
     }
 }
@@ -137,7 +143,7 @@ fn add_sub_imm<W: fmt::Write>(
     let name = operation(op);
     let rd = Name(Bank::XSp, rd);
     let rn = Name(Bank::XSp, rn);
-    let imm = Number(imm);
+    let imm = Shifted::from(imm);
     write!(f, "{name} {rd}, {rn}, {imm}")
 }
 
@@ -178,7 +184,7 @@ fn mov_wide<W: fmt::Write>(
         MoveWideOp::MovK => "movk",
     };
     let rd = Name(Bank::X, rd);
-    let imm = Part(imm);
+    let imm = Shifted::from(imm);
     write!(f, "{name} {rd}, {imm}")
 }
 

@@ -1,5 +1,5 @@
 // Cases of books: as many functions as told, all alike but for their numbers, on a record sink.
-use crate::line::{Miss, next, next32, told, want};
+use crate::line::{Miss, hold, next, next32, told, want};
 use book::book::Book;
 use record_sink::RecordSink;
 use refusal::Refusal;
@@ -42,16 +42,16 @@ fn last_add(
     Ok(last)
 }
 
-fn same(words: &mut Words<'_>, answer: Result<usize, Refusal>) -> Result<bool, Miss> {
+fn same(words: &mut Words<'_>, answer: Result<usize, Refusal>) -> Result<(), Miss> {
     match (next(words)?, answer) {
-        (b"slot", Ok(slot)) => Ok(next32(words)? as usize == slot),
-        (b"refused", Err(r)) => Ok(want(words)? == told(r)),
-        _ => Ok(false),
+        (b"slot", Ok(slot)) => hold(next32(words)? as usize == slot),
+        (b"refused", Err(r)) => hold(want(words)? == told(r)),
+        _ => Err(Miss::Case),
     }
 }
 
 // COUNT functions with BODY words each on a sink of LENGTH: the last add is answered as told.
-pub fn held(heap: Global, words: &mut Words<'_>) -> Result<bool, Miss> {
+pub fn held(heap: Global, words: &mut Words<'_>) -> Result<(), Miss> {
     let count = next32(words)?;
     let body = next32(words)?;
     let length = next32(words)?;

@@ -4,7 +4,7 @@ use refusal::Refusal;
 use std::alloc::{AllocError, AllocFailed};
 use text::words::Words;
 
-// Why a case is not judged to its end: it is not as its kind wants it, and so does not hold, or memory ran out.
+// Why a case is not found to hold: it does not, or memory ran out.
 #[derive(Drop)]
 pub enum Miss {
     Case,
@@ -27,6 +27,11 @@ impl<T: Drop> From<AllocFailed<T>> for Miss {
     fn from(e: AllocFailed<T>) -> Miss {
         Miss::Memory(AllocError::from(e))
     }
+}
+
+// The case goes on where this is so.
+pub fn hold(so: bool) -> Result<(), Miss> {
+    so.then_some(()).ok_or(Miss::Case)
 }
 
 pub fn next<'a>(words: &mut Words<'a>) -> Result<&'a [u8], Miss> {

@@ -6,7 +6,7 @@ mod line;
 mod pieces;
 mod sheets;
 
-use crate::line::{Miss, next};
+use crate::line::{Miss, hold, next};
 use a64::inst::Inst;
 use asm::Asm;
 use numerals::number::code_word;
@@ -30,18 +30,17 @@ fn printed(heap: Global, i: Inst) -> Result<String, AllocError> {
 }
 
 // The word reads as an instruction that prints as the text, and encodes as the word.
-fn reads(heap: Global, line: &[u8], words: &mut Words<'_>) -> Result<bool, Miss> {
+fn reads(heap: Global, line: &[u8], words: &mut Words<'_>) -> Result<(), Miss> {
     let w = code_word(next(words)?).ok_or(Miss::Case)?;
     let i = codec::decode(w);
-    if codec::encode(i)? != w || line.len() < TEXT {
-        return Ok(false);
-    }
+    hold(codec::encode(i)? == w)?;
+    let text = line.get(TEXT..).ok_or(Miss::Case)?;
     let shown = printed(heap, i)?;
-    Ok(shown.as_bytes() == &line[TEXT..])
+    hold(shown.as_bytes() == text)
 }
 
-// Whether the case holds that has this name.
-fn named(heap: Global, name: &[u8], line: &[u8], words: &mut Words<'_>) -> Result<bool, Miss> {
+// The case of this name holds.
+fn named(heap: Global, name: &[u8], line: &[u8], words: &mut Words<'_>) -> Result<(), Miss> {
     match name {
         b"word" => reads(heap, line, words),
         b"accepted" => sheets::accepted(heap, words),
@@ -53,7 +52,7 @@ fn named(heap: Global, name: &[u8], line: &[u8], words: &mut Words<'_>) -> Resul
         b"adjust" => pieces::adjusted(heap, words),
         b"probes" => pieces::probed(heap, words),
         b"book" => books::held(heap, words),
-        _ => Ok(false),
+        _ => Err(Miss::Case),
     }
 }
 
@@ -64,7 +63,7 @@ fn holds(heap: Global, line: &[u8]) -> Result<Option<bool>, AllocError> {
         return Ok(None);
     };
     match named(heap, name, line, &mut words) {
-        Ok(good) => Ok(Some(good)),
+        Ok(()) => Ok(Some(true)),
         Err(Miss::Case) => Ok(Some(false)),
         Err(Miss::Memory(e)) => Err(e),
     }

@@ -1,5 +1,5 @@
 // Cases of sheets, in numbers alone.
-use crate::line::{Miss, next, next32, told, want};
+use crate::line::{Miss, hold, next, next32, told, want};
 use layout::{FrameLayout, compute_frame_layout};
 use numerals::number::number8;
 use owned_sheet::OwnedSheet;
@@ -31,18 +31,19 @@ fn read_sheet(heap: Global, words: &mut Words<'_>) -> Result<OwnedSheet, Miss> {
 }
 
 // The sheet is accepted.
-pub fn accepted(heap: Global, words: &mut Words<'_>) -> Result<bool, Miss> {
+pub fn accepted(heap: Global, words: &mut Words<'_>) -> Result<(), Miss> {
     let sheet = read_sheet(heap, words)?;
-    Ok(check(sheet.sheet()).is_ok())
+    check(sheet.sheet())?;
+    Ok(())
 }
 
 // The sheet is refused with the number, layer and place that stand before it.
-pub fn turned_away(heap: Global, words: &mut Words<'_>) -> Result<bool, Miss> {
+pub fn turned_away(heap: Global, words: &mut Words<'_>) -> Result<(), Miss> {
     let want = want(words)?;
     let sheet = read_sheet(heap, words)?;
     match check(sheet.sheet()) {
-        Ok(_) => Ok(false),
-        Err(r) => Ok(told(r) == want),
+        Ok(_) => Err(Miss::Case),
+        Err(r) => hold(told(r) == want),
     }
 }
 

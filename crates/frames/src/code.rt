@@ -35,9 +35,10 @@ fn write_code(out: &mut impl Write, name: &str, code: &[u32]) -> io::Result<()> 
 }
 
 pub fn write_note(out: &mut impl Write, note: Note) -> io::Result<()> {
-    let Ok([first, a, b]) = <[u32; 3]>::try_from(note) else {
+    let Ok(words) = <[u32; 3]>::try_from(note) else {
         return Ok(());
     };
+    let [first, a, b] = words;
     let place = note.place;
     let what = InWords(note.inst);
     writeln!(

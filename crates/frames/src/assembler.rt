@@ -1,5 +1,6 @@
 // A whole book as text that an assembler takes, its notes as unwind directives.
 use crate::register::Register;
+use crate::show::{insts_of, notes_of};
 use a64::inst::Key;
 use asm::Asm;
 use book::book::Book;
@@ -111,7 +112,7 @@ fn directives_at<S: Sink>(
     before: Cfa,
 ) -> io::Result<Cfa> {
     let mut cfa = before;
-    for at in e.notes_start..e.notes_start.saturating_add(e.notes) {
+    for at in notes_of(e) {
         if let Ok(note) = book.note_at(at)
             && note.place as usize == place
         {
@@ -124,9 +125,8 @@ fn directives_at<S: Sink>(
 
 // The instructions of a function, each behind the notes that stand before it.
 fn code<S: Sink>(out: &mut impl Write, book: &Book<S>, e: &Entry) -> io::Result<()> {
-    let count = e.prologue.saturating_add(e.body).saturating_add(e.epilogue);
     let mut cfa = Cfa::BySp(0);
-    for place in e.start..e.start.saturating_add(count) {
+    for place in insts_of(e) {
         cfa = directives_at(out, book, e, place, cfa)?;
         if let Ok(i) = book.inst_at(place) {
             let text = Asm(i);
@@ -174,10 +174,8 @@ pub fn assembler<S: Sink>(out: &mut impl Write, book: &Book<S>) -> io::Result<()
         out,
         "// book of {count} functions\n    .arch armv8.5-a+pauth\n    .text"
     )?;
-    for slot in 0..FUNCTION_COUNT {
-        if let Some(e) = book.entry_at(slot) {
-            function(out, book, &e)?;
-        }
+    for e in (0..FUNCTION_COUNT).filter_map(|slot| book.entry_at(slot)) {
+        function(out, book, &e)?;
     }
     writeln!(out, "// end of book")
 }

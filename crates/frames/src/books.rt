@@ -3,7 +3,8 @@ use crate::assembler::assembler;
 use crate::code::{PieceCounts, counts_of, write_note};
 use crate::command::{Command, Kind, Mistake};
 use crate::show::show;
-use crate::{mistaken, perform, refused};
+use crate::stop::Stop;
+use crate::{mistaken, or_refused, perform};
 use asm::Asm;
 use book::play::{Played, play};
 use codec::encode;
@@ -61,7 +62,7 @@ fn calls_of(heap: Global, lines: &[Line]) -> Result<Vec<Call<'_>>, AllocError> {
     Ok(all)
 }
 
-fn added(heap: Global, out: &mut impl Write, slot: usize, c: &Command) -> io::Result<()> {
+fn added(heap: Global, out: &mut impl Write, slot: usize, c: &Command) -> Result<(), Stop> {
     match c {
         Command::Add(sheet, words) => {
             let PieceCounts {
@@ -73,34 +74,40 @@ fn added(heap: Global, out: &mut impl Write, slot: usize, c: &Command) -> io::Re
             writeln!(
                 out,
                 "added {slot} prologue {prologue} body {body} epilogue {epilogue} notes {notes}"
-            )
+            )?;
+            Ok(())
         }
         _ => Ok(()),
     }
 }
 
-fn answered(heap: Global, out: &mut impl Write, c: &Command, a: Answer) -> io::Result<()> {
+fn answered(heap: Global, out: &mut impl Write, c: &Command, a: Answer) -> Result<(), Stop> {
     match a {
-        Answer::Added(Ok(slot)) => added(heap, out, slot, c),
-        Answer::Added(Err(r)) => refused(out, r),
-        Answer::Withdrew(Ok(number)) => writeln!(out, "withdrew {number}"),
-        Answer::Withdrew(Err(r)) => refused(out, r),
-        Answer::Found(Some(slot)) => writeln!(out, "slot {slot}"),
-        Answer::Found(None) => writeln!(out, "nothing"),
-        Answer::Inst(Ok(i)) => match encode(i) {
-            Ok(w) => {
-                let text = Asm(i);
-                writeln!(out, "inst {w:08X} ; {text}")
-            }
-            Err(r) => refused(out, r),
-        },
-        Answer::Inst(Err(r)) => refused(out, r),
-        Answer::Note(Ok(note)) => write_note(out, note),
-        Answer::Note(Err(r)) => refused(out, r),
+        Answer::Added(r) => {
+            let slot = r?;
+            added(heap, out, slot, c)?;
+        }
+        Answer::Withdrew(r) => {
+            let number = r?;
+            writeln!(out, "withdrew {number}")?;
+        }
+        Answer::Found(Some(slot)) => writeln!(out, "slot {slot}")?,
+        Answer::Found(None) => writeln!(out, "nothing")?,
+        Answer::Inst(r) => {
+            let i = r?;
+            let w = encode(i)?;
+            let text = Asm(i);
+            writeln!(out, "inst {w:08X} ; {text}")?;
+        }
+        Answer::Note(r) => {
+            let note = r?;
+            write_note(out, note)?;
+        }
         Answer::Counted(Counts { insts, notes, room }) => {
-            writeln!(out, "counts {insts} {notes} {room}")
+            writeln!(out, "counts {insts} {notes} {room}")?;
         }
     }
+    Ok(())
 }
 
 // A sink that a job opens by its kind and its length.
@@ -145,7 +152,8 @@ fn line_done(
                 return Ok(k);
             }
             if let Some(a) = answers.get(k) {
-                answered(heap, out, c, *a)?;
+                let done = answered(heap, out, c, *a);
+                or_refused(out, done)?;
             }
             Ok(k.saturating_add(1))
         }

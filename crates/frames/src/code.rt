@@ -9,7 +9,7 @@ use owned_sheet::OwnedSheet;
 use refusal::Refusal;
 use sheet::check::check;
 use sink::sink::Sink;
-use std::alloc::{AllocError, Global};
+use std::alloc::Global;
 use std::io;
 use std::io::Write;
 use word_sink::WordSink;
@@ -56,16 +56,28 @@ fn write_notes(out: &mut impl Write, sink: &WordSink) -> io::Result<()> {
     Ok(())
 }
 
-// The prologue, the epilogue, and the notes.
-pub fn write_frame(heap: Global, out: &mut impl Write, l: &FrameLayout) -> Result<(), Stop> {
+// What the prologue and the epilogue of a frame put.
+#[derive(Drop)]
+struct Put {
+    opening: WordSink,
+    closing: WordSink,
+}
+
+fn put_both(heap: Global, l: &FrameLayout) -> Result<Put, Stop> {
     let mut emitter = Emitter::new();
     let mut opening = WordSink::new(heap, ROOM)?;
     let mut closing = WordSink::new(heap, ROOM)?;
     emitter.put_prologue(l, &mut opening)?;
     emitter.put_epilogue(l, &mut closing)?;
-    write_code(out, "prologue", opening.code())?;
-    write_code(out, "epilogue", closing.code())?;
-    write_notes(out, &opening)?;
+    Ok(Put { opening, closing })
+}
+
+// The prologue, the epilogue, and the notes.
+pub fn write_frame(heap: Global, out: &mut impl Write, l: &FrameLayout) -> Result<(), Stop> {
+    let put = put_both(heap, l)?;
+    write_code(out, "prologue", put.opening.code())?;
+    write_code(out, "epilogue", put.closing.code())?;
+    write_notes(out, &put.opening)?;
     Ok(())
 }
 
@@ -84,27 +96,19 @@ pub(crate) fn write_piece<F: FnOnce(&mut Emitter, &mut WordSink) -> Result<(), R
 }
 
 // How many instructions a prologue and an epilogue have, and how many notes.
-#[derive(Clone, Copy, Default)]
+#[derive(Clone, Copy)]
 pub struct PieceCounts {
     pub prologue: usize,
     pub epilogue: usize,
     pub notes: usize,
 }
 
-// The counts of a sheet's frame, 0 where it is refused.
-pub fn counts_of(heap: Global, sheet: &OwnedSheet) -> Result<PieceCounts, AllocError> {
-    let Ok(checked) = check(sheet.sheet()) else {
-        return Ok(PieceCounts::default());
-    };
-    let l = compute_frame_layout(checked);
-    let mut emitter = Emitter::new();
-    let mut opening = WordSink::new(heap, ROOM)?;
-    let mut closing = WordSink::new(heap, ROOM)?;
-    let _ = emitter.put_prologue(&l, &mut opening);
-    let _ = emitter.put_epilogue(&l, &mut closing);
+// The counts of a sheet's frame.
+pub fn counts_of(heap: Global, sheet: &OwnedSheet) -> Result<PieceCounts, Stop> {
+    let put = put_both(heap, &compute_frame_layout(check(sheet.sheet())?))?;
     Ok(PieceCounts {
-        prologue: opening.inst_count(),
-        epilogue: closing.inst_count(),
-        notes: opening.note_count(),
+        prologue: put.opening.inst_count(),
+        epilogue: put.closing.inst_count(),
+        notes: put.opening.note_count(),
     })
 }

@@ -38,7 +38,7 @@ fn decode(out: &mut impl Write, w: u32) -> io::Result<()> {
     }
 }
 
-pub(crate) fn refused(out: &mut impl Write, r: Refusal) -> io::Result<()> {
+fn refused(out: &mut impl Write, r: Refusal) -> io::Result<()> {
     let number = r.cause.number();
     let layer = r.layer.number();
     let place = r.place;
@@ -110,13 +110,19 @@ fn answer(heap: Global, out: &mut impl Write, c: &Command) -> Result<(), Stop> {
     }
 }
 
-// A command that needs no book, and its refusal where there is one.
-pub(crate) fn perform(heap: Global, out: &mut impl Write, c: &Command) -> io::Result<()> {
-    match answer(heap, out, c) {
+// Prints the refusal where there is one.
+pub(crate) fn or_refused(out: &mut impl Write, done: Result<(), Stop>) -> io::Result<()> {
+    match done {
         Ok(()) => Ok(()),
         Err(Stop::Refused(r)) => refused(out, r),
         Err(Stop::Io(e)) => Err(e),
     }
+}
+
+// A command that needs no book.
+pub(crate) fn perform(heap: Global, out: &mut impl Write, c: &Command) -> io::Result<()> {
+    let done = answer(heap, out, c);
+    or_refused(out, done)
 }
 
 pub(crate) fn mistaken(out: &mut impl Write, number: u64, why: Mistake) -> io::Result<()> {

@@ -12,6 +12,17 @@ use std::io;
 use std::io::Write;
 use std::ops::Range;
 
+// The places of a function's instructions in the book.
+pub fn insts_of(e: &Entry) -> Range<usize> {
+    let count = e.prologue.saturating_add(e.body).saturating_add(e.epilogue);
+    e.start..e.start.saturating_add(count)
+}
+
+// The places of its notes.
+pub fn notes_of(e: &Entry) -> Range<usize> {
+    e.notes_start..e.notes_start.saturating_add(e.notes)
+}
+
 fn show_insts<S: Sink>(
     out: &mut impl Write,
     book: &Book<S>,
@@ -58,13 +69,8 @@ fn show_function<S: Sink>(
     )?;
     write!(out, "frame ")?;
     picture(out, &compute_frame_layout(e.sheet))?;
-    let whole = prologue.saturating_add(body).saturating_add(epilogue);
-    show_insts(out, book, e.start..e.start.saturating_add(whole))?;
-    show_notes(
-        out,
-        book,
-        e.notes_start..e.notes_start.saturating_add(notes),
-    )
+    show_insts(out, book, insts_of(&e))?;
+    show_notes(out, book, notes_of(&e))
 }
 
 pub fn show<S: Sink>(out: &mut impl Write, book: &Book<S>) -> io::Result<()> {

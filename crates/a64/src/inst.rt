@@ -160,7 +160,7 @@ pub enum Inst {
         rd: Reg,
         imm: MoveWideConst,
     },
-    // paciaz, paciasp, pacibz, pacibsp
+    // paciaz, paciasp, pacibz, pacibsp; key and modifier apart, as the word has a bit for each
     Paci {
         key: Key,
         modifier: Modifier,

@@ -188,6 +188,7 @@ fn mov_wide<W: fmt::Write>(
     write!(f, "{name} {rd}, {imm}")
 }
 
+// No `From` for the mode: both types are another crate's.
 fn indexed<W: fmt::Write>(
     f: &mut fmt::Formatter<W>,
     dir: Dir,

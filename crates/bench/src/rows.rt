@@ -6,12 +6,12 @@ use text::lines::Lines;
 use text::parts::Parts;
 use text::words::Words;
 
-// The next word as a number, or 0.
+// The next word as a number, or 0: rows are measured, not judged.
 fn next(words: &mut Words<'_>) -> u32 {
     words.next().and_then(number32).unwrap_or(0)
 }
 
-// The codes of a word; what is no code ends them.
+// The codes of a word; what is no code ends them. Each program takes wrong codes in its own way.
 fn codes(heap: Global, word: &[u8]) -> Result<Vec<u8>, AllocError> {
     let mut all = Vec::new(heap);
     for part in Parts::new(word, b',') {

@@ -38,6 +38,7 @@ pub struct Book<S: Sink> {
     pub(crate) shelf: Shelf,
 }
 
+// The premise stands in each contract: a word for it would take the same five arguments.
 impl<S: Sink> Book<S> {
     // The slot of a function number.
     pub fn look_up(&self, number: u32) -> Option<usize>

@@ -31,7 +31,7 @@ pub(crate) fn past(held: usize, first: usize, second: usize, third: usize) -> bo
         > ITEM_LIMIT
 }
 
-// How many instructions and how many notes.
+// How many instructions and how many notes. Not a sink's `Counts`: there is no room to tell.
 #[derive(Clone, Copy)]
 pub(crate) struct Tally {
     pub insts: usize,

@@ -8,7 +8,7 @@ use std::alloc::Global;
 use text::parts::Parts;
 use text::words::Words;
 
-// Codes joined by commas, or `-`.
+// Codes joined by commas, or `-`. What is no code is a miss: each program takes wrong codes in its own way.
 fn codes(heap: Global, word: &[u8]) -> Result<Vec<u8>, Miss> {
     let mut all = Vec::new(heap);
     if let b"-" = word {

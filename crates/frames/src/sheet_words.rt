@@ -73,7 +73,7 @@ fn code(word: &[u8]) -> Option<u8> {
     }
 }
 
-// The codes joined by commas, or `-` for none.
+// The codes joined by commas, or `-` for none. What is no code is a mistake: each program takes wrong codes in its own way.
 fn codes(heap: Global, word: &[u8]) -> Result<Vec<u8>, Mistake> {
     let mut all = Vec::new(heap);
     if let b"-" = word {

@@ -76,6 +76,7 @@ fn show_function<S: Sink>(
 pub fn show<S: Sink>(out: &mut impl Write, book: &Book<S>) -> io::Result<()> {
     let Counts { insts, notes, room } = book.counts();
     writeln!(out, "book instructions {insts} notes {notes} room {room}")?;
+    // By slot, since it is printed.
     for slot in 0..FUNCTION_COUNT {
         if let Some(e) = book.entry_at(slot) {
             show_function(out, book, slot, e)?;

@@ -115,7 +115,7 @@ impl TryFrom<[u32; 3]> for Note {
     }
 }
 
-// The case with this number, from its two words; any other number is read as the last case.
+// The case with this number, from its two words; any other number is read as the last case, so no `From`.
 pub fn inst_from(kind: u32, a: u32, b: u32) -> UnwindInst
     ensures { result ≡ inst_from_of kind a b }
 {

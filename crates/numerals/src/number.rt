@@ -60,6 +60,7 @@ fn narrow(n: Option<u64>) -> Option<u32>
     u32::try_from(n?).ok()
 }
 
+// A function for each width, as `try_from` is all of it.
 pub fn number32(word: &[u8]) -> Option<u32>
     ensures { result ≡ below (2 ^ 32) (number_of word.now) }
 {

@@ -5,6 +5,7 @@ ghost use Rattle.std.specs.Prelude.{◌≡◌, ◌∷◌, []};
 
 use sheet::types::{Sheet, Sizes};
 
+// Apart from `Sheet`, which lends the codes.
 #[derive(Drop)]
 pub struct OwnedSheet {
     pub number: u32,
@@ -15,7 +16,7 @@ pub struct OwnedSheet {
     pub codes: Vec<u8>,
 }
 
-// The sizes in the order of a sheet's words.
+// The sizes in the order of a sheet's words. No `From`: the order is that of a text.
 pub fn sizes_of(n: [u32; 6]) -> Sizes
     ensures { n ≡ result.incoming ∷ result.tail ∷ result.stackslots ∷ result.fixed ∷ result.outgoing ∷ result.guard ∷ [] }
 {

@@ -14,6 +14,7 @@ fn refused(heap: Global, e: Refusal) -> Result<String, AllocError> {
     format!(in heap; "= refused {number} {layer} {place}")
 }
 
+// A refusal is an answer here, so no `?`.
 fn done(heap: Global, r: Result<(), Refusal>) -> Result<String, AllocError> {
     match r {
         Ok(_) => String::from_str(heap, "= ok"),

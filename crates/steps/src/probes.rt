@@ -10,7 +10,7 @@ use a64::imm::{Imm12, SImm9};
 use a64::inst::{AddSub, Inst, Reg};
 use item_list::ItemList;
 
-// The guard and the list are two parameters: the list is put behind by every piece, the guard is asked here alone.
+// Sizes and list are parameters of their own: a frame's size and its guard meet here alone.
 
 // So many probes at most stand one by one.
 const PROBE_MAX_UNROLL: u32 = 3;

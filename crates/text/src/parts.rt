@@ -6,6 +6,7 @@ ghost use Rattle.text.specs.Cuts.{after_part, first_part, parts_at_most};
 
 use crate::find;
 
+// Not the slices' `split`, whose contract speaks of a closure.
 #[derive(Drop)]
 pub struct Parts<'a> {
     rest: Option<&'a [u8]>,

@@ -139,6 +139,7 @@ impl Sink for WordSink {
         Ok(())
     }
 
+    // The three tests are the record sink's too: a function for them would take each sink's own notes.
     fn rewind(&mut self, i: usize, n: usize) -> Result<(), Refusal>
         ensures answer { Rewind (record { inst = 1; note = 3 }) (word_held self.old) i n (word_held self.new) result }
         ensures cells { cells_of self.new ≡ cells_of self.old }

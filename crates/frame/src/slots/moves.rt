@@ -1,4 +1,4 @@
-// One slot saved, and one restored.
+// One slot saved, and one restored. Layout, offset and list are parameters of their own, as in `opening`.
 #![tactic(auto, using(crate::proofs::Putting::puts))]
 
 ghost use Rattle.std.specs.Prelude.{◌≡◌, ◌+◌, ◌^◌, ◌<◌, ◌∷◌};

@@ -103,7 +103,7 @@ fn directive(out: &mut impl Write, cfa: Cfa, note: UnwindInst) -> io::Result<()>
     }
 }
 
-// The notes of a function that stand at a place; what is known after them.
+// The notes of a function that stand at a place; what is known after them. The book and the entry: a copied entry is no part of the book.
 fn directives_at<S: Sink>(
     out: &mut impl Write,
     book: &Book<S>,

@@ -110,7 +110,7 @@ fn answered(heap: Global, out: &mut impl Write, c: &Command, a: Answer) -> Resul
     Ok(())
 }
 
-// A sink that a job opens by its kind and its length.
+// A sink that a job opens by its kind, which picks the type, and its length.
 trait Opens: Sink + Drop {
     fn open(heap: Global, length: usize) -> Result<Self, AllocError>;
 }

@@ -1,4 +1,4 @@
-// An instruction from its form's name and its fields in decimal, as a line of text has them.
+// An instruction from its form's name and its fields in decimal, as a line of text has them. A field is found by its place: the forms differ in theirs.
 use a64::imm::*;
 use a64::inst::*;
 use std::str::FromStr;

@@ -9,6 +9,7 @@ use frame::piece::{Piece, list_piece};
 use item_list::ItemList;
 use layout::FrameLayout;
 
+#[tactic(auto, using(crate::proofs::Filled::filled, crate::proofs::Filled::filled_read))]
 pub(crate) fn items_of(piece: Piece, layout: &FrameLayout) -> ItemList
     ensures items { listed result ≡ piece_of piece (plain layout.now.sheet) }
     ensures read { AllRead (piece_of piece (plain layout.now.sheet)) }

@@ -37,6 +37,15 @@ fn add_sub_imm(op: AddSub, line: &str) -> Inst {
     }
 }
 
+fn add_sub_ext(op: AddSub, line: &str) -> Inst {
+    Inst::AddSubExt {
+        op,
+        rd: reg(line, 2),
+        rn: reg(line, 3),
+        rm: reg(line, 4),
+    }
+}
+
 fn mov_wide(op: MoveWideOp, line: &str) -> Inst {
     Inst::MovWide {
         op,
@@ -127,30 +136,29 @@ fn stur_w(line: &str) -> Inst {
     }
 }
 
-// An instruction of any other form.
+// An instruction of any other form. Each arm reads the fields of its form alone: a field is a walk along the line.
 fn other(form: &str, line: &str) -> Inst {
-    let rd = reg(line, 2);
-    let rn = reg(line, 3);
-    let rm = reg(line, 4);
     match form {
         "ADDI" => add_sub_imm(AddSub::Add, line),
         "SUBI" => add_sub_imm(AddSub::Sub, line),
-        "ADDX" => Inst::AddSubExt {
-            op: AddSub::Add,
-            rd,
-            rn,
-            rm,
+        "ADDX" => add_sub_ext(AddSub::Add, line),
+        "SUBX" => add_sub_ext(AddSub::Sub, line),
+        "ADDS" => Inst::AddsShifted {
+            rd: reg(line, 2),
+            rn: reg(line, 3),
+            rm: reg(line, 4),
         },
-        "SUBX" => Inst::AddSubExt {
-            op: AddSub::Sub,
-            rd,
-            rn,
-            rm,
-        },
-        "ADDS" => Inst::AddsShifted { rd, rn, rm },
         "LDRX_UOFF" => ldr_uimm(line),
-        "LDRX_REG" => Inst::LdrReg { rt: rd, rn, rm },
-        "STRW_REG" => Inst::StrWReg { rt: rd, rn, rm },
+        "LDRX_REG" => Inst::LdrReg {
+            rt: reg(line, 2),
+            rn: reg(line, 3),
+            rm: reg(line, 4),
+        },
+        "STRW_REG" => Inst::StrWReg {
+            rt: reg(line, 2),
+            rn: reg(line, 3),
+            rm: reg(line, 4),
+        },
         "STURW" => stur_w(line),
         "MOVZ" => mov_wide(MoveWideOp::MovZ, line),
         "MOVK" => mov_wide(MoveWideOp::MovK, line),

@@ -31,7 +31,8 @@ impl Emitter {
         }
     }
 
-    // A part, whole or not at all.
+    // A part, whole or not at all. Inlined, so that each method keeps the arms of its own part alone.
+    #[inline(always)]
     fn put<S: Sink>(&mut self, part: Part<'_>, sink: &mut S) -> Result<(), Refusal>
         ensures { PutPart ⟦<S as Priced>⟧.prices (S.held sink.old) part.entry (S.held sink.new) result }
     {

@@ -20,6 +20,7 @@ pub(crate) enum Part<'a> {
 }
 
 // Puts a part behind a list.
+#[inline(always)]
 pub(crate) fn list_part(part: Part<'_>, list: &mut ItemList)
     ensures { Puts list.old list.new (part_of part.entry) }
 {
